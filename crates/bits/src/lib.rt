@@ -11,10 +11,7 @@ pub const WIDTH: usize = 32;
 pub fn holds(mask: u32, i: usize) -> bool
     ensures { result ≡ has mask i }
 {
-    if i < WIDTH {
-        return (mask >> i) & 1 == 1;
-    }
-    false
+    i < WIDTH && (mask >> i) & 1 == 1
 }
 
 // The set with `i` in it.

@@ -3,8 +3,7 @@
 --   names are kept in capitals; INTEGER and RECUR's numbers by value, FLOAT by its normal form, BOOLEAN by truth, RECUR's parts in the schema's order,
 --   TEXT unescaped, the rest by the characters kept, as iCalendar text spells them.
 -- Names: RFC 5545, sections 3.2 (parameters), 3.3 (value types), 3.6 (components).
-use Rattle.std.specs.Prelude.{Bool, true, false, List, ℕ}
-use Rattle.std.proofs.Math.Option.{Option, none, some}
+use Rattle.std.specs.Prelude.{Bool, true, false, List, ℕ, Option, None, Some}
 
 -- the value types of RFC 5545, section 3.3, in its order, and `unknown` of RFC 6321, section 5
 pub data ValueType : Type 0 where
@@ -85,24 +84,24 @@ type_of (request_status c d x) = TEXT
 
 -- the characters of a TEXT
 abbrev pub text_in : Value → Option (List ℕ)
-text_in (binary s) = none
-text_in (boolean b) = none
-text_in (cal_address s) = none
-text_in (date s) = none
-text_in (date_time s) = none
-text_in (duration s) = none
-text_in (float d) = none
-text_in (integer w) = none
-text_in (period_explicit s e) = none
-text_in (period_start s d) = none
-text_in (recur ps) = none
-text_in (text s) = some s
-text_in (time s) = none
-text_in (uri s) = none
-text_in (utc_offset s) = none
-text_in (unknown s) = none
-text_in (geo la lo) = none
-text_in (request_status c d x) = none
+text_in (binary s) = None
+text_in (boolean b) = None
+text_in (cal_address s) = None
+text_in (date s) = None
+text_in (date_time s) = None
+text_in (duration s) = None
+text_in (float d) = None
+text_in (integer w) = None
+text_in (period_explicit s e) = None
+text_in (period_start s d) = None
+text_in (recur ps) = None
+text_in (text s) = Some s
+text_in (time s) = None
+text_in (uri s) = None
+text_in (utc_offset s) = None
+text_in (unknown s) = None
+text_in (geo la lo) = None
+text_in (request_status c d x) = None
 
 -- a parameter: its name in capitals, its values in order (text, uri, cal-address, boolean, unknown). VALUE is none: the type stands on the value
 pub record Parameter : Type 0 where

@@ -3,8 +3,7 @@
 --     Verdict             what a check finds;   ◌otherwise◌ is one check after another
 --     characters, limit   refusals 3 and 1
 --     Answer              what reading an input gives
-use Rattle.std.specs.Prelude.{[], ◌∷◌, ℕ, ◌-◌, get_or}
-use Rattle.std.proofs.Math.Option.{Option, none, some}
+use Rattle.std.specs.Prelude.{[], ◌∷◌, ℕ, ◌-◌, get_or, Option, None, Some}
 use Rattle.calendar.specs.Calendar.{Calendar}
 
 -- 1 LENGTH, 2 WORK, 3 CHARACTER, 4 LINE, 5 NAME, 6 FRAME, 7 PARAMETER, 8 VALUE, 9 COUNT, 11 XML, 12 JSON, 13 EDITION have a place; 10 ROOM has the exact length
@@ -42,8 +41,8 @@ refuse n p otherwise w = refuse n p
 
 -- refusal 3, at the place of the first character that is none
 abbrev pub characters : Option ℕ → Verdict
-characters none = fine
-characters (some p) = refuse CHARACTER p
+characters None = fine
+characters (Some p) = refuse CHARACTER p
 
 -- the longest input that is not refused for its length, of both conversions
 abbrev pub limit : ℕ

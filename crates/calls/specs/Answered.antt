@@ -1,36 +1,26 @@
 -- What the code answers, as an outcome, and as one number for C.
---     refusal_of      the refusal that code names
 --     outcome_of      the outcome that an answer stands for
---     answer_at       the answer of a refusal's number
+--     answer_of       the answer that refuses;   answer_at: the same by a refusal's number
 --     code_of         an outcome as one number: its number times 2 ^ 32, and its value
 --     Done            the contract of a conversion's last part: what is given is written into d, which is left as e
 use Rattle.std.specs.Prelude.{◌≡◌, List, ℕ, ◌+◌, ◌*◌, eqb, length}
 use Rattle.octets.specs.Pick.{pick}
-use Rattle.calendar.specs.Refusal.{Refusal, LENGTH, WORK, CHARACTER, LINE, NAME, FRAME, PARAMETER, VALUE, COUNT, ROOM, XML, JSON, EDITION}
+use Rattle.calendar.specs.Refusal.{ROOM}
+use Rattle.refusals.specs.Fault.{refusal_of}
 use Rattle.refusals.specs.declared.Refusal as coded
 use Rattle.refusals.specs.declared.Refusal.TheVariants.{Length, Work, Character, Line, Name, Frame, Parameter, Value, Count, Xml, Json, Edition}
+use Rattle.refusals.specs.declared.Fault.{Fault}
 use Rattle.calls.specs.Conversion.{Converted, Outcome, written, refusal, numbers, outcome, contents}
 use Rattle.calls.specs.declared.Answer.{Answer}
 use Rattle.calls.specs.declared.Answer.TheVariants.{Written, Needs, Refused}
-
-abbrev pub refusal_of : coded.Refusal → Refusal
-refusal_of Length = LENGTH
-refusal_of Work = WORK
-refusal_of Character = CHARACTER
-refusal_of Line = LINE
-refusal_of Name = NAME
-refusal_of Frame = FRAME
-refusal_of Parameter = PARAMETER
-refusal_of Value = VALUE
-refusal_of Count = COUNT
-refusal_of Xml = XML
-refusal_of Json = JSON
-refusal_of Edition = EDITION
 
 abbrev pub outcome_of : Answer → Outcome
 outcome_of (Written n) = written n
 outcome_of (Needs n) = refusal ROOM n
 outcome_of (Refused r p) = refusal (refusal_of r) p
+
+abbrev pub answer_of : Fault → Answer
+answer_of f = Refused f.refusal f.place
 
 -- the refusal that code names by a number
 abbrev pub named_else : ℕ → coded.Refusal

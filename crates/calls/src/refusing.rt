@@ -1,11 +1,32 @@
-// The answer that refuses, by its number. See specs/Answered.antt.
+// The answer that refuses, by its number, for callers that have a refusal as a number. See specs/Answered.antt.
 ghost use Rattle.std.specs.Prelude.{◌≡◌};
 ghost use Rattle.calls.specs.Answered.{named, named_else, answer_at};
 
 use crate::Answer;
-use refusals::{
-    CHARACTER, COUNT, EDITION, FRAME, JSON, LINE, NAME, PARAMETER, ROOM, Refusal, VALUE, WORK, XML,
-};
+use refusals::{ROOM, Refusal};
+
+// The numbers that are told apart, from the enum.
+const LINE: u8 = Refusal::Line as u8;
+
+const NAME: u8 = Refusal::Name as u8;
+
+const FRAME: u8 = Refusal::Frame as u8;
+
+const PARAMETER: u8 = Refusal::Parameter as u8;
+
+const VALUE: u8 = Refusal::Value as u8;
+
+const COUNT: u8 = Refusal::Count as u8;
+
+const WORK: u8 = Refusal::Work as u8;
+
+const CHARACTER: u8 = Refusal::Character as u8;
+
+const XML: u8 = Refusal::Xml as u8;
+
+const JSON: u8 = Refusal::Json as u8;
+
+const EDITION: u8 = Refusal::Edition as u8;
 
 // The refusal of a number that is none of LINE to COUNT; of a number of none it is LENGTH.
 fn refusal_else(n: u8) -> Refusal

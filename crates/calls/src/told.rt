@@ -2,7 +2,8 @@
 ghost use Rattle.std.specs.Prelude.{◌≡◌, ◌+◌, ◌*◌, ◌<◌};
 ghost use Rattle.calendar.specs.Refusal.{number_of};
 ghost use Rattle.calls.specs.Conversion.{numbers};
-ghost use Rattle.calls.specs.Answered.{outcome_of, refusal_of};
+ghost use Rattle.refusals.specs.Fault.{refusal_of};
+ghost use Rattle.calls.specs.Answered.{outcome_of};
 
 use crate::Answer;
 use refusals::Refusal;

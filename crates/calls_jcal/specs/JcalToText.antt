@@ -2,8 +2,7 @@
 --     jcal_to_text          what the jCal gives in an edition, if there is one
 --     jcal_to_text_outcome  the answer of the call
 --     jcal_to_text_output   what the output holds afterwards
-use Rattle.std.specs.Prelude.{List, ℕ, leb, length}
-use Rattle.std.proofs.Math.Option.{Option, none, some}
+use Rattle.std.specs.Prelude.{List, ℕ, leb, length, Option, None, Some}
 use Rattle.octets.specs.Pick.{pick}
 use Rattle.calendar.specs.Refusal.{LENGTH, EDITION, limit}
 use Rattle.edition.specs.Edition.{edition_of}
@@ -14,8 +13,8 @@ use Rattle.calls.specs.Conversion.{Converted, fault, converted, Outcome, outcome
 
 -- a number that names no edition is refused after LENGTH
 unfoldable pub jcal_to_text : Option Edition → List ℕ → Converted
-jcal_to_text (some ed) s = converted (write_calendar ed) (read_jcal ed s)
-jcal_to_text none s = pick (leb (length s) limit) (fault EDITION 0) (fault LENGTH 0)
+jcal_to_text (Some ed) s = converted (write_calendar ed) (read_jcal ed s)
+jcal_to_text None s = pick (leb (length s) limit) (fault EDITION 0) (fault LENGTH 0)
 
 abbrev pub jcal_to_text_outcome : List ℕ → List ℕ → ℕ → Outcome
 jcal_to_text_outcome s out edition = outcome (jcal_to_text (edition_of edition) s) (length out)

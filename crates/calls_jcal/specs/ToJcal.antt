@@ -3,8 +3,7 @@
 --     to_jcal_outcome  the answer of the call
 --     to_jcal_output   what the output holds afterwards
 --     to_jcal_work     what the work room holds afterwards: what it holds after the call to XML
-use Rattle.std.specs.Prelude.{List, ℕ, leb, length}
-use Rattle.std.proofs.Math.Option.{Option, none, some}
+use Rattle.std.specs.Prelude.{List, ℕ, leb, length, Option, None, Some}
 use Rattle.octets.specs.Pick.{pick}
 use Rattle.calendar.specs.Refusal.{LENGTH, WORK, EDITION, limit}
 use Rattle.edition.specs.Edition.{edition_of}
@@ -16,8 +15,8 @@ use Rattle.calls.specs.ToXml.{to_xml_work}
 
 -- a number that names no edition is refused after LENGTH and WORK
 unfoldable pub to_jcal : Option Edition → List ℕ → ℕ → Converted
-to_jcal (some ed) s room = converted write_jcal (read_calendar ed s room)
-to_jcal none s room = pick (leb (length s) limit) (pick (leb (length s) room) (fault EDITION 0) (fault WORK 0)) (fault LENGTH 0)
+to_jcal (Some ed) s room = converted write_jcal (read_calendar ed s room)
+to_jcal None s room = pick (leb (length s) limit) (pick (leb (length s) room) (fault EDITION 0) (fault WORK 0)) (fault LENGTH 0)
 
 abbrev pub to_jcal_outcome : List ℕ → List ℕ → List ℕ → ℕ → Outcome
 to_jcal_outcome s work out edition = outcome (to_jcal (edition_of edition) s (length work)) (length out)

@@ -4,24 +4,22 @@
 ghost use Rattle.std.specs.Prelude.{◌≡◌, length};
 ghost use Rattle.source.specs.Source.{rest};
 ghost use Rattle.utf8.specs.Utf8.{first_bad};
-ghost use Rattle.utf8.specs.Automaton.{found_of};
 
 use octets::unit::END;
 use source::unit;
-use utf8::{Found, at_start, end, read};
+use utf8::{at_start, end, read};
 
 // The same in any encoding, a byte at a time.
-fn first_met(mode: usize, s: &[u8]) -> Found
-    ensures { found_of result ≡ first_bad (rest mode s.now 0) }
+fn first_met(mode: usize, s: &[u8]) -> Option<usize>
+    ensures { result ≡ first_bad (rest mode s.now 0) }
 {
     let mut st = at_start();
     let mut i = 0;
     let mut c = 0;
     loop {
         let x = unit(mode, s, c);
-        let u = x.u;
-        if u < END {
-            st = read(st, i, u as u8);
+        if x.u < END {
+            st = read(st, i, x.u as u8);
             i += 1;
             c = x.next;
         } else {
@@ -31,13 +29,14 @@ fn first_met(mode: usize, s: &[u8]) -> Found
 }
 
 // The number of the first byte of the first sequence that is no character that an input may hold.
-pub fn first_bad(mode: usize, s: &[u8]) -> Found
-    ensures { found_of result ≡ first_bad (rest mode s.now 0) }
+pub fn first_bad(mode: usize, s: &[u8]) -> Option<usize>
+    ensures { result ≡ first_bad (rest mode s.now 0) }
 {
     if mode == 0 {
-        return utf8::first_bad(s);
+        utf8::first_bad(s)
+    } else {
+        first_met(mode, s)
     }
-    first_met(mode, s)
 }
 
 // How many bytes there are from the cursor `from` on.

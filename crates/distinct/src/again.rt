@@ -10,16 +10,14 @@ pub fn first_again(mode: usize, s: &[u8], from: &[u16], to: &[u16], n: usize) ->
     ensures { result ≡ first_again []
         (listed n (word_at mode s.now from.now to.now) []) }
 {
-    let none = are_distinct(mode, s, from, to, n);
-    if none {
+    if are_distinct(mode, s, from, to, n) {
         return n;
     }
     let mut low = 0;
     let mut high = n;
     while low + 1 < high {
         let middle = low + (high - low) / 2;
-        let apart = are_distinct(mode, s, from, to, middle);
-        if apart {
+        if are_distinct(mode, s, from, to, middle) {
             low = middle;
         } else {
             high = middle;

@@ -19,14 +19,11 @@ fn later_child(
 {
     let l = 2 * i + 1;
     let m = l + 1;
-    if m < n {
-        let k = compare(mode, s, from, to, number_at(order, l), number_at(order, m));
-        if k == 1 {
-            return m;
-        }
-        return l;
+    if m < n && compare(mode, s, from, to, number_at(order, l), number_at(order, m)) == 1 {
+        m
+    } else {
+        l
     }
-    l
 }
 
 // Moves the number at the place `start` down to where no child's word comes later, among the first `n`.
@@ -36,17 +33,11 @@ fn sift(mode: usize, s: &[u8], from: &[u16], to: &[u16], order: &mut [u16], star
     let mut i = start;
     while i < n {
         let j = later_child(mode, s, from, to, order, i, n);
-        if j < n {
-            let k = compare(mode, s, from, to, number_at(order, i), number_at(order, j));
-            if k == 1 {
-                swap(order, i, j);
-                i = j;
-            } else {
-                return;
-            }
-        } else {
+        if n <= j || compare(mode, s, from, to, number_at(order, i), number_at(order, j)) != 1 {
             return;
         }
+        swap(order, i, j);
+        i = j;
     }
 }
 

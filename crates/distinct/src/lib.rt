@@ -23,7 +23,7 @@ use order::{are_alike, is_order, put_ranks, rise};
 use pairs::are_all_apart;
 
 // Words that a caller collected by their cuts: how many, and whether those are all.
-#[derive(Clone, Copy)]
+#[derive(Clone, Copy, Debug, PartialEq, Eq)]
 pub struct Kept {
     pub n: usize,
     pub all: bool,
@@ -47,14 +47,10 @@ fn by_order(
     put_ranks(order, ranks, n);
     let r = rise(mode, s, from, to, order, n);
     if r < n {
-        let alike = are_alike(mode, s, from, to, order, r, n);
-        if alike {
+        if are_alike(mode, s, from, to, order, r, n) {
             return false;
         }
-        return are_all_apart(mode, s, from, to, n);
-    }
-    let ordered = is_order(order, ranks, n);
-    if ordered {
+    } else if is_order(order, ranks, n) {
         return true;
     }
     are_all_apart(mode, s, from, to, n)

@@ -11,18 +11,13 @@ fn wide(x: u16) -> usize
 pub fn number_at(a: &[u16], i: usize) -> usize
     ensures { result ≡ get_or a.now i 0 }
 {
-    if i < a.len() {
-        return wide(a[i]);
-    }
-    0
+    if i < a.len() { wide(a[i]) } else { 0 }
 }
 
 // Puts the number `x` at the place `i`.
 pub fn put_number(a: &mut [u16], i: usize, x: usize) {
-    if x < 65536 {
-        if i < a.len() {
-            a[i] = x as u16;
-        }
+    if x < 65536 && i < a.len() {
+        a[i] = x as u16;
     }
 }
 

@@ -23,16 +23,10 @@ pub fn is_order(order: &[u16], ranks: &[u16], n: usize) -> bool
     let mut p = 0;
     while p < n {
         let r = number_at(ranks, p);
-        if r < n {
-            let q = number_at(order, r);
-            if q == p {
-                p += 1;
-            } else {
-                return false;
-            }
-        } else {
+        if n <= r || number_at(order, r) != p {
             return false;
         }
+        p += 1;
     }
     true
 }

@@ -7,13 +7,13 @@ ghost use Rattle.distinct.specs.Pairs.{Again};
 use crate::compare::compare;
 
 // The word of the number `j` is that of a number below `j`.
+#[tactic(auto, using(crate::specs::laws::Pairs::pairwise))]
 fn is_again(mode: usize, s: &[u8], from: &[u16], to: &[u16], j: usize) -> bool
     ensures { Again (word_at mode s.now from.now to.now) j result }
 {
     let mut i = 0;
     while i < j {
-        let k = compare(mode, s, from, to, i, j);
-        if k == 0 {
+        if compare(mode, s, from, to, i, j) == 0 {
             return true;
         }
         i += 1;
@@ -22,13 +22,13 @@ fn is_again(mode: usize, s: &[u8], from: &[u16], to: &[u16], j: usize) -> bool
 }
 
 // No two of the first `n` words are the same.
+#[tactic(auto, using(crate::specs::laws::Pairs::pairwise))]
 pub fn are_all_apart(mode: usize, s: &[u8], from: &[u16], to: &[u16], n: usize) -> bool
     ensures { result ≡ distinct (listed n (word_at mode s.now from.now to.now) []) }
 {
     let mut j = 0;
     while j < n {
-        let again = is_again(mode, s, from, to, j);
-        if again {
+        if is_again(mode, s, from, to, j) {
             return false;
         }
         j += 1;

@@ -1,13 +1,12 @@
 -- Logs that are split, by computation.
-use Rattle.std.specs.Prelude.{◌≡◌, refl, [], ◌∷◌}
-use Rattle.std.proofs.Math.Option.{none}
+use Rattle.std.specs.Prelude.{◌≡◌, refl, [], ◌∷◌, None}
 use Rattle.octets.specs.Ascii.{ascii}
 use Rattle.octets.specs.Many.{ok}
 use Rattle.octets.specs.Computing.{octets_compute}
 use Rattle.documents.specs.Log.{ahead, document_end, documents}
 
 -- no document ends in an end tag with no LF behind it, nor where a log was cut off
-no_end : document_end (ascii "<icalendar></icalendar><icalendar></icalendar>") ≡ none
+no_end : document_end (ascii "<icalendar></icalendar><icalendar></icalendar>") ≡ None
 unfolding octets_compute document_end ahead
 no_end = refl
 

@@ -3,8 +3,7 @@
 --     Scanned k s r      what a search of the piece s answers, where the bytes before it end with the first k bytes: the document's end in s; or how many of
 --                        them the bytes end with then, whatever follows
 --     Reached l .. , Kept s ..    what a program keeps that has read l, and what it keeps behind the piece s
-use Rattle.std.specs.Prelude.{◌≡◌, List, ℕ, ◌+◌, ◌≤◌, ◌<◌, eqb, length, get_or, take}
-use Rattle.std.proofs.Math.Option.{some}
+use Rattle.std.specs.Prelude.{◌≡◌, List, ℕ, ◌+◌, ◌≤◌, ◌<◌, eqb, length, get_or, take, Some}
 use Rattle.octets.specs.Pick.{pick}
 use Rattle.octets.specs.Append.{◌⊕◌, joined}
 use Rattle.octets.specs.Many.{ok}
@@ -19,7 +18,7 @@ further k b = pick (eqb b (get_or document_close k 0)) (k + 1) (pick (eqb b 60) 
 pub record Ended (k : ℕ) (s : List ℕ) (n : ℕ) : Type 0 where
   pub inside : n ≤ length s
   pub some_bytes : 0 < n
-  pub end : document_end (take k document_close ⊕ s) ≡ some (k + n)
+  pub end : document_end (take k document_close ⊕ s) ≡ Some (k + n)
 
 -- no document ends in s, and a search of what follows it is one behind the first j bytes of document_close
 pub record Opened (k : ℕ) (s : List ℕ) (j : ℕ) : Type 0 where

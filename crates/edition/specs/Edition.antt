@@ -6,28 +6,20 @@
 --   o  if a ^ (U+005E) character is followed by any character other than the ones above, parsers MUST leave both the ^ and the following character in place
 --     edition_of       the edition that a number names;   edition_number: its number
 --     decode e s       the value that s spells;   encode e s: a value spelled
-use Rattle.std.specs.Prelude.{Bool, true, false, List, [], ◌∷◌, ℕ, eqb}
-use Rattle.std.proofs.Math.Option.{Option, none, some}
+use Rattle.std.specs.Prelude.{Bool, true, false, List, [], ◌∷◌, ℕ, eqb, Option, None, Some}
 use Rattle.octets.specs.Pick.{pick, ◌or◌}
 use Rattle.octets.specs.Append.{◌⊕◌}
 use Rattle.edition.specs.declared.Edition.{Edition}
 use Rattle.edition.specs.declared.Edition.TheVariants.{Rfc5545, Rfc6868}
-use Rattle.edition.specs.declared.EditionRead.{EditionRead}
-use Rattle.edition.specs.declared.EditionRead.TheVariants.{Known, Unknown}
 
 -- ---- the editions by number
 
 abbrev pub edition_of : ℕ → Option Edition
-edition_of n = pick (eqb n 0) (some Rfc5545) (pick (eqb n 1) (some Rfc6868) none)
+edition_of n = pick (eqb n 0) (Some Rfc5545) (pick (eqb n 1) (Some Rfc6868) None)
 
 abbrev pub edition_number : Edition → ℕ
 edition_number Rfc5545 = 0
 edition_number Rfc6868 = 1
-
--- what the code answers
-abbrev pub known : EditionRead → Option Edition
-known (Known e) = some e
-known Unknown = none
 
 -- ---- carets
 

@@ -1,12 +1,11 @@
 -- Values of parameters in both editions, computed.
-use Rattle.std.specs.Prelude.{◌≡◌, refl, List, [], ◌∷◌, map, ℕ}
-use Rattle.std.proofs.Math.Option.{none, some}
+use Rattle.std.specs.Prelude.{◌≡◌, refl, List, [], ◌∷◌, map, ℕ, None, Some}
 use Rattle.octets.specs.Ascii.{ascii}
 use Rattle.edition.specs.Edition.{edition_of, decode, encode}
 use Rattle.edition.specs.Computing.{edition_compute}
 use Rattle.edition.specs.declared.Edition.TheVariants.{Rfc5545, Rfc6868}
 
-numbers : map edition_of (0 ∷ 1 ∷ 2 ∷ []) ≡ some Rfc5545 ∷ some Rfc6868 ∷ none ∷ []
+numbers : map edition_of (0 ∷ 1 ∷ 2 ∷ []) ≡ Some Rfc5545 ∷ Some Rfc6868 ∷ None ∷ []
 unfolding edition_compute
 numbers = refl
 

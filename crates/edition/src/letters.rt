@@ -18,40 +18,28 @@ const DOUBLE_QUOTE: usize = Edition::DOUBLE_QUOTE as usize;
 pub fn is_letter(u: usize) -> bool
     ensures { result ≡ is_letter u }
 {
-    if u == LINE_FEED {
-        return true;
-    }
-    if u == DOUBLE_QUOTE {
-        return true;
-    }
-    u == CARET
+    u == LINE_FEED || u == DOUBLE_QUOTE || u == CARET
 }
 
 // The character that it means.
 pub fn meant(u: usize) -> usize
     ensures { result ≡ meant u }
 {
-    if u == LINE_FEED {
-        return LF;
+    match u {
+        LINE_FEED => LF,
+        DOUBLE_QUOTE => QUOTE,
+        _ => CARET,
     }
-    if u == DOUBLE_QUOTE {
-        return QUOTE;
-    }
-    CARET
 }
 
 // A byte of a value, encoded.
 pub fn put_encoded_byte(out: &mut [u8], at: usize, b: u8) -> usize
     ensures { Put out.old out.new at result (encode_byte b) }
 {
-    if b == b'\n' {
-        return put_all(out, at, &[Edition::CARET, Edition::LINE_FEED]);
+    match b {
+        b'\n' => put_all(out, at, &[Edition::CARET, Edition::LINE_FEED]),
+        b'"' => put_all(out, at, &[Edition::CARET, Edition::DOUBLE_QUOTE]),
+        Edition::CARET => put_all(out, at, &[Edition::CARET, Edition::CARET]),
+        _ => put(out, at, b),
     }
-    if b == b'"' {
-        return put_all(out, at, &[Edition::CARET, Edition::DOUBLE_QUOTE]);
-    }
-    if b == Edition::CARET {
-        return put_all(out, at, &[Edition::CARET, Edition::CARET]);
-    }
-    put(out, at, b)
 }

@@ -1,15 +1,15 @@
 // The editions of iCalendar text: RFC 5545 alone, and with the carets of RFC 6868 in values of parameters. See specs/Edition.antt.
-#![tactic(auto)]
+#![tactic(auto, using(octets::specs::laws::Pick::branching_joined))]
 
 mod letters;
 
 ghost use Rattle.std.specs.Prelude.{◌≡◌};
-ghost use Rattle.edition.specs.Edition.{edition_of, known};
+ghost use Rattle.edition.specs.Edition.{edition_of};
 
 pub use letters::{is_letter, meant, put_encoded_byte};
 
 // An edition, each with its number.
-#[derive(Clone, Copy)]
+#[derive(Clone, Copy, Debug, PartialEq, Eq)]
 pub enum Edition {
     Rfc5545 = 0,
     Rfc6868 = 1,
@@ -28,21 +28,13 @@ impl Edition {
     pub const DOUBLE_QUOTE: u8 = b'\'';
 }
 
-// The edition that a number names, or none.
-#[derive(Clone, Copy)]
-pub enum EditionRead {
-    Known(Edition),
-    Unknown,
-}
-
-pub fn edition_of(number: u32) -> EditionRead
-    ensures { known result ≡ edition_of number }
+// The edition that a number names.
+pub fn edition_of(number: u32) -> Option<Edition>
+    ensures { result ≡ edition_of number }
 {
-    if number == Edition::RFC_5545 {
-        return EditionRead::Known(Edition::Rfc5545);
+    match number {
+        Edition::RFC_5545 => Some(Edition::Rfc5545),
+        Edition::RFC_6868 => Some(Edition::Rfc6868),
+        _ => None,
     }
-    if number == Edition::RFC_6868 {
-        return EditionRead::Known(Edition::Rfc6868);
-    }
-    EditionRead::Unknown
 }

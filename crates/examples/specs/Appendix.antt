@@ -4,8 +4,7 @@
 -- folded at 75 octets, and the line ends inside B.2.2's description are part of its text, as no value but BINARY is trimmed.
 --     planning, planning_page    B.1.1 and B.1.2
 --     meetings, meetings_page    B.2.1 and B.2.2; the page is in a file of its own
-use Rattle.std.specs.Prelude.{◌≡◌, refl, List, [], ◌∷◌, ◌++◌, ℕ}
-use Rattle.std.proofs.Math.Option.{some}
+use Rattle.std.specs.Prelude.{◌≡◌, refl, List, [], ◌∷◌, ◌++◌, ℕ, Some}
 use Prim.Native.String.{String}
 use Rattle.octets.specs.Ascii.{ascii}
 use Rattle.calendar.specs.Refusal.{FRAME, VALUE}
@@ -87,7 +86,7 @@ planning_before : given (planning "DTSTART:20081006") ≡ fault VALUE 144
 unfolding conversions_compute
 planning_before = refl
 
-planning_page_to_text : to_text (some Rfc5545) planning_page ≡ result (planning "DTSTART;VALUE=DATE:20081006")
+planning_page_to_text : to_text (Some Rfc5545) planning_page ≡ result (planning "DTSTART;VALUE=DATE:20081006")
 unfolding conversions_compute
 planning_page_to_text = refl
 
@@ -185,7 +184,7 @@ abbrev pub meetings_text : List String → List ℕ
 meetings_text description = meetings ("BEGIN:VCALENDAR" ∷ "PRODID:-//Example Inc.//Example Client//EN" ∷ "VERSION:2.0" ∷ []) "RDATE;VALUE=PERIOD;TZID=US/Eastern:20060102T150000/PT2H" description
 
 -- B.2.2 as it is printed: the description's text has four line ends, three of them from the page
-meetings_page_to_text : to_text (some Rfc5545) (meetings_page "          <tzid><text>US/Eastern</text></tzid>" (
+meetings_page_to_text : to_text (Some Rfc5545) (meetings_page "          <tzid><text>US/Eastern</text></tzid>" (
     "            <text>We are having a meeting all this week at 12" ∷
     "pm for one hour, with an additional meeting on the first day" ∷
     "2 hours long.&#x0a;Please bring your own lunch for the 12 pm" ∷
@@ -205,18 +204,18 @@ folded_description =
     " r own lunch for the 12 pm meetings." ∷ []
 
 -- B.2.2 with the description in one line: it is then B.2.1's
-meetings_joined_to_text : to_text (some Rfc5545) (meetings_page "          <tzid><text>US/Eastern</text></tzid>" (
+meetings_joined_to_text : to_text (Some Rfc5545) (meetings_page "          <tzid><text>US/Eastern</text></tzid>" (
     "            <text>We are having a meeting all this week at 12 pm for one hour, with an additional meeting on the first day 2 hours long.&#x0a;Please bring your own lunch for the 12 pm meetings.</text>" ∷ []))
     ≡ result (meetings_text folded_description)
 unfolding conversions_compute
 meetings_joined_to_text = refl
 
 -- and back from the canonical XML of B.2.1: VERSION before PRODID
-meetings_xml_to_text : to_text (some Rfc5545) meetings_xml ≡ result (meetings ("BEGIN:VCALENDAR" ∷ "VERSION:2.0" ∷ "PRODID:-//Example Inc.//Example Client//EN" ∷ []) "RDATE;VALUE=PERIOD;TZID=US/Eastern:20060102T150000/PT2H" folded_description)
+meetings_xml_to_text : to_text (Some Rfc5545) meetings_xml ≡ result (meetings ("BEGIN:VCALENDAR" ∷ "VERSION:2.0" ∷ "PRODID:-//Example Inc.//Example Client//EN" ∷ []) "RDATE;VALUE=PERIOD;TZID=US/Eastern:20060102T150000/PT2H" folded_description)
 unfolding conversions_compute
 meetings_xml_to_text = refl
 
 -- before erratum 3679: text where the property's value belongs, at its first byte
-meetings_page_before : to_text (some Rfc5545) (meetings_page "          <tzid>US/Eastern</tzid>" ("            <text>We are having a meeting.</text>" ∷ [])) ≡ fault FRAME 473
+meetings_page_before : to_text (Some Rfc5545) (meetings_page "          <tzid>US/Eastern</tzid>" ("            <text>We are having a meeting.</text>" ∷ [])) ≡ fault FRAME 473
 unfolding conversions_compute
 meetings_page_before = refl

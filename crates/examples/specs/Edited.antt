@@ -1,8 +1,7 @@
 -- A small edit: the line of one property is another, and the XML and the jCal are the same before it and after it.
 --     three_events, time_zone, fleet  texts with such a line: last in the second event of three; in a VTIMEZONE behind a subcomponent; alone in an unrecognised component
 --     summary_line, summary_stated    two of them as `small_edit` of crate theorems takes them
-use Rattle.std.specs.Prelude.{◌≡◌, refl, false, List, [], ◌∷◌, ◌++◌, map, ℕ, length}
-use Rattle.std.proofs.Math.Option.{some}
+use Rattle.std.specs.Prelude.{◌≡◌, refl, false, List, [], ◌∷◌, ◌++◌, map, ℕ, length, Some}
 use Rattle.octets.specs.Ascii.{ascii}
 use Rattle.calendar.specs.Calendar.{text}
 use Rattle.edition.specs.declared.Edition.TheVariants.{Rfc5545, Rfc6868}
@@ -17,7 +16,7 @@ use Rattle.examples.specs.Notation.{text_lines, canonical, given}
 
 -- to jCal, with a work room as long as the text
 abbrev jcal_given : List ℕ → Converted
-jcal_given s = to_jcal (some Rfc5545) s (length s)
+jcal_given s = to_jcal (Some Rfc5545) s (length s)
 
 -- what stands before the property, after it, and around all
 abbrev around : (List ℕ → List ℕ) → List ℕ → List ℕ → List ℕ → Converted
@@ -124,7 +123,7 @@ fleet s =
 abbrev fleets : List (List ℕ)
 fleets = fleet (ascii "SUMMARY:Glod\r\n") ∷ fleet (ascii "sum\r\n mary;x-b=^'a^':Gold\r\n") ∷ fleet (ascii "X-CLASS:Optimist\r\n") ∷ []
 
-fleet_mended : map (λ (s : List ℕ). to_xml (some Rfc6868) s (length s)) fleets ≡ map (around canonical
+fleet_mended : map (λ (s : List ℕ). to_xml (Some Rfc6868) s (length s)) fleets ≡ map (around canonical
     (ascii "<vcalendar><properties><prodid><text>p</text></prodid><version><text>2.0</text></version></properties><components>"
     ++ ascii "<x-fleet><properties></properties><components><x-division><properties></properties></x-division><x-division><properties>")
     (ascii "</properties><components><valarm><properties><action><text>AUDIO</text></action><trigger><duration>PT0S</duration></trigger></properties></valarm></components></x-division>"
@@ -133,7 +132,7 @@ fleet_mended : map (λ (s : List ℕ). to_xml (some Rfc6868) s (length s)) fleet
 unfolding conversions_compute
 fleet_mended = refl
 
-fleet_mended_jcal : map (λ (s : List ℕ). to_jcal (some Rfc6868) s (length s)) fleets ≡ map (around alone
+fleet_mended_jcal : map (λ (s : List ℕ). to_jcal (Some Rfc6868) s (length s)) fleets ≡ map (around alone
     (json "['vcalendar',[['prodid',{},'text','p'],['version',{},'text','2.0']],[['x-fleet',[],[['x-division',[],[]],['x-division',[")
     (json "],[['valarm',[['action',{},'text','AUDIO'],['trigger',{},'duration','PT0S']],[]]]]]]]]"))
     (json "['summary',{},'text','Glod']" ∷ json "['summary',{'x-b':'\\'a\\''},'text','Gold']" ∷ json "['x-class',{},'unknown','Optimist']" ∷ [])

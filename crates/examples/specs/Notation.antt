@@ -5,8 +5,7 @@
 --     given         what a text gives, to XML
 --     in_event      a small calendar with one event, in which these lines stand last: the first of them at place 112
 --     event_xml     the canonical document of that calendar, in which these properties stand last
-use Rattle.std.specs.Prelude.{List, [], ◌∷◌, ◌++◌, ℕ, length}
-use Rattle.std.proofs.Math.Option.{some}
+use Rattle.std.specs.Prelude.{List, [], ◌∷◌, ◌++◌, ℕ, length, Some}
 use Prim.Native.String.{String}
 use Rattle.octets.specs.Ascii.{ascii}
 use Rattle.edition.specs.declared.Edition.TheVariants.{Rfc5545}
@@ -28,7 +27,7 @@ canonical s =
 
 -- with a work room as long as the text
 abbrev pub given : List ℕ → Converted
-given s = to_xml (some Rfc5545) s (length s)
+given s = to_xml (Some Rfc5545) s (length s)
 
 -- ---- one event
 

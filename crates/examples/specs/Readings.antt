@@ -3,8 +3,7 @@
 --     Question, Told    what is asked, and what is answered
 --     table             the readings
 --     readings          the definitions answer every question of the table with the table's answer
-use Rattle.std.specs.Prelude.{◌≡◌, refl, List, [], ◌∷◌, ◌++◌, map, ℕ, length, replicate}
-use Rattle.std.proofs.Math.Option.{some}
+use Rattle.std.specs.Prelude.{◌≡◌, refl, List, [], ◌∷◌, ◌++◌, map, ℕ, length, replicate, Some}
 use Prim.Native.String.{String}
 use Rattle.octets.specs.Ascii.{ascii}
 use Rattle.calendar.specs.Calendar.{Value, date_time, text, unknown, Parameter, Property, no_more, component}
@@ -40,7 +39,7 @@ told_back x (result t) = both_ways x t
 told_back x (fault r p) = refused number_of r at p
 
 abbrev pub told_of : Converted → Told
-told_of (result x) = told_back x (to_text (some Rfc5545) x)
+told_of (result x) = told_back x (to_text (Some Rfc5545) x)
 told_of (fault r p) = refused number_of r at p
 
 abbrev pub of_text : List ℕ → Told

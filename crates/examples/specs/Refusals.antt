@@ -1,8 +1,7 @@
 -- Each refusal, with its place. ROOM and WORK, which speak of the lent buffers, are among the calls in Buffers.
 --     text_table       texts: a line of an event stands at place 112
 --     document_table   documents: a property of an event stands at place 377
-use Rattle.std.specs.Prelude.{◌≡◌, refl, List, [], ◌∷◌, ◌++◌, map, ℕ, replicate}
-use Rattle.std.proofs.Math.Option.{some}
+use Rattle.std.specs.Prelude.{◌≡◌, refl, List, [], ◌∷◌, ◌++◌, map, ℕ, replicate, Some}
 use Rattle.octets.specs.Ascii.{ascii}
 use Rattle.calendar.specs.Refusal.{number_of}
 use Rattle.edition.specs.declared.Edition.TheVariants.{Rfc5545}
@@ -79,7 +78,7 @@ told_text (result t) = octets t
 told_text (fault r p) = refused number_of r at p
 
 abbrev pub of_document : DocumentRow → Told
-of_document (x is_told a) = told_text (to_text (some Rfc5545) x)
+of_document (x is_told a) = told_text (to_text (Some Rfc5545) x)
 
 abbrev pub document_answer : DocumentRow → Told
 document_answer (x is_told a) = a

@@ -1,6 +1,5 @@
 -- The rota of the rules ("One rota, whole"), to XML and back to text, byte for byte.
-use Rattle.std.specs.Prelude.{◌≡◌, refl, List, [], ◌∷◌, ℕ}
-use Rattle.std.proofs.Math.Option.{some}
+use Rattle.std.specs.Prelude.{◌≡◌, refl, List, [], ◌∷◌, ℕ, Some}
 use Rattle.edition.specs.declared.Edition.TheVariants.{Rfc5545}
 use Rattle.calls.specs.Conversion.{result}
 use Rattle.calls.specs.ToText.{to_text}
@@ -29,6 +28,6 @@ pub rota_to_xml : given rota ≡ result rota_xml
 unfolding conversions_compute
 rota_to_xml = refl
 
-pub rota_to_text : to_text (some Rfc5545) rota_xml ≡ result rota
+pub rota_to_text : to_text (Some Rfc5545) rota_xml ≡ result rota
 unfolding conversions_compute
 rota_to_text = refl

@@ -2,8 +2,7 @@
 --     line_table     content lines of an event: the property in canonical XML, and its canonical line
 --     element_table  properties of an event in XML: their canonical lines
 -- and whole texts: a time zone, alarms, busy time, two calendars.
-use Rattle.std.specs.Prelude.{◌≡◌, refl, List, [], ◌∷◌, ◌++◌, map, ℕ}
-use Rattle.std.proofs.Math.Option.{some}
+use Rattle.std.specs.Prelude.{◌≡◌, refl, List, [], ◌∷◌, ◌++◌, map, ℕ, Some}
 use Prim.Native.String.{String}
 use Rattle.octets.specs.Ascii.{ascii}
 use Rattle.folding.specs.Unfold.{crlf}
@@ -115,7 +114,7 @@ element_table =
     reads ascii "X-DEPTH:a,b" ∷
     []
 
-elements_converted : map (λ (r : ElementRow). to_text (some Rfc5545) (event_xml (element_in r))) element_table ≡ map (λ (r : ElementRow). result (in_event (line_in r ++ crlf))) element_table
+elements_converted : map (λ (r : ElementRow). to_text (Some Rfc5545) (event_xml (element_in r))) element_table ≡ map (λ (r : ElementRow). result (in_event (line_in r ++ crlf))) element_table
 unfolding conversions_compute
 elements_converted = refl
 

@@ -7,11 +7,11 @@
 //
 // specs/Month.antt defines the same rule. Crate times, specs/MonthRule.antt, shows that in every month DATE accepts exactly the days
 // from 1 to the length that is given here.
-#![tactic(auto)]
+#![tactic(auto, unfolding(octets::specs::Computing::octets_compute, crate::specs::Month::is_leap_year, crate::specs::Month::has_thirty_days, crate::specs::Month::days_in_month, crate::specs::Month::is_day))]
 
 ghost use Rattle.std.specs.Prelude.{◌≡◌};
 ghost use Rattle.octets.specs.Pick.{within};
-ghost use Rattle.gregorian.specs.Month.{is_leap_year, has_thirty_days, days_in_month, is_day};
+ghost use Rattle.gregorian.specs.Month.{is_leap_year, days_in_month, is_day};
 
 const FEBRUARY: u8 = 2;
 
@@ -33,54 +33,27 @@ fn is_leap_year(year: u16) -> bool
     year % 4 == 0
 }
 
-// April, June, September and November.
-fn has_thirty_days(month: u8) -> bool
-    ensures { result ≡ has_thirty_days month }
-{
-    if month == APRIL {
-        return true;
-    }
-    if month == JUNE {
-        return true;
-    }
-    if month == SEPTEMBER {
-        return true;
-    }
-    month == NOVEMBER
-}
-
 // The length of a month: February has 28 days, in a leap year 29; four months have 30; all others have 31.
 fn days_in_month(year: u16, month: u8) -> u8
     ensures { result ≡ days_in_month year month }
 {
-    if month == FEBRUARY {
-        if is_leap_year(year) {
-            return 29;
-        }
-        return 28;
+    match month {
+        FEBRUARY if is_leap_year(year) => 29,
+        FEBRUARY => 28,
+        APRIL | JUNE | SEPTEMBER | NOVEMBER => 30,
+        _ => 31,
     }
-    if has_thirty_days(month) {
-        return 30;
-    }
-    31
 }
 
 fn is_within(lo: u8, hi: u8, x: u8) -> bool
     ensures { result ≡ within lo hi x }
 {
-    if x < lo {
-        return false;
-    }
-    x <= hi
+    lo <= x && x <= hi
 }
 
 // Whether there is such a day: the month is from 1 to 12, and the day from 1 to the month's length.
 pub fn is_day(year: u16, month: u8, day: u8) -> bool
     ensures { result ≡ is_day year month day }
 {
-    let last = days_in_month(year, month);
-    if is_within(1, 12, month) {
-        return is_within(1, last, day);
-    }
-    false
+    is_within(1, 12, month) && is_within(1, days_in_month(year, month), day)
 }

@@ -3,8 +3,7 @@
 --     components_verdict ed vs may left m  the verdict, in an edition, on components whose names pass a test, in a calendar with METHOD or, where m is false, without
 --     read_components vs                   the components that they state;   read_calendars: without what stands too deep
 --     calendars_in v                       the calendars of a text: of one outer array, known by beginning with an array, its elements; else the text's value alone
-use Rattle.std.specs.Prelude.{Bool, not, List, [], ◌∷◌, map, ℕ, zero, suc, ◌-◌, eqb, ltb, length}
-use Rattle.std.proofs.Math.Option.{Option, none, some}
+use Rattle.std.specs.Prelude.{Bool, not, List, [], ◌∷◌, map, ℕ, zero, suc, ◌-◌, eqb, ltb, length, Option, None, Some}
 use Rattle.octets.specs.Pick.{pick, ◌and◌}
 use Rattle.octets.specs.Class.{upper}
 use Rattle.octets.specs.Words.{is_empty}
@@ -21,14 +20,14 @@ use Rattle.jcal.specs.Property.{name_in, is_bad_name, passes, property_fault, pr
 
 -- a refusal at a place
 abbrev pub at : ℕ → Option Refusal → Verdict
-at p none = fine
-at p (some r) = refuse r p
+at p None = fine
+at p (Some r) = refuse r p
 
 -- ---- the properties of a component k
 
 abbrev pub property_verdict : Edition → List ℕ → Json → Option (List Json) → Verdict
-property_verdict ed k v none = refuse FRAME (place_of v)
-property_verdict ed k v (some vs) = at (place_of v) (property_fault ed k vs)
+property_verdict ed k v None = refuse FRAME (place_of v)
+property_verdict ed k v (Some vs) = at (place_of v) (property_fault ed k vs)
 
 unfoldable pub properties_verdict : Edition → List ℕ → List Json → Verdict
 properties_verdict ed k [] = fine
@@ -54,8 +53,8 @@ is_component vs = is_read (name_in vs) and is_read (property_arrays vs) and is_r
 
 unfoldable pub component_fault : (List ℕ → Bool) → ℕ → List Json → Option Refusal
 component_fault may left vs =
-    pick (passes is_bad_name (name_in vs)) (some NAME)
-    (pick (is_component vs and may (component_name vs) and ltb 0 left) none (some FRAME))
+    pick (passes is_bad_name (name_in vs)) (Some NAME)
+    (pick (is_component vs and may (component_name vs) and ltb 0 left) None (Some FRAME))
 
 -- whether METHOD stands in the calendar of what is inside
 abbrev pub method_inside : List Json → Bool → Bool

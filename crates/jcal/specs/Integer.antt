@@ -1,8 +1,7 @@
 -- INTEGER (RFC 7265, section 3.6.8): a JSON number that resolves to an integer value in the range of RFC 5545, section 3.3.8. So a fraction or an exponent
 -- may stand where the value is an integer: 10.0e-1 is 1.
 --     read_number s   the integer that the number s (RFC 8259, section 6) resolves to
-use Rattle.std.specs.Prelude.{Bool, List, ℕ, ◌+◌, ◌-◌, ◌*◌, ◌^◌, eqb, ltb, leb, length, take, drop}
-use Rattle.std.proofs.Math.Option.{Option, some}
+use Rattle.std.specs.Prelude.{Bool, List, ℕ, ◌+◌, ◌-◌, ◌*◌, ◌^◌, eqb, ltb, leb, length, take, drop, Option, Some}
 use Rattle.octets.specs.Pick.{pick}
 use Rattle.octets.specs.Scan.{all_of}
 use Rattle.octets.specs.Append.{◌⊕◌}
@@ -38,7 +37,7 @@ down s = length (frac s) + pick (has_minus (exp s)) (value 0 (after_sign (exp s)
 
 -- n × 10 ^ k; with more than nine zeros only 0 is in the range
 abbrev pub raised : ℕ → ℕ → Option ℕ
-raised n k = pick (eqb n 0) (some 0) (provided (ltb k 10) (n * 10 ^ k))
+raised n k = pick (eqb n 0) (Some 0) (provided (ltb k 10) (n * 10 ^ k))
 
 -- digits without the last k of them, which must be zeros
 abbrev pub lowered : List ℕ → ℕ → Option ℕ

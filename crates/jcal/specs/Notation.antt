@@ -3,8 +3,7 @@
 --     in_event    a small calendar with one event, in which a property stands last, at place 201
 --     canonical   what is written of a text that is accepted in the edition of RFC 5545 alone, or its refusal
 --     property    the same of one property's array in a component
-use Rattle.std.specs.Prelude.{List, [], ◌∷◌, ◌++◌, ℕ, eqb}
-use Rattle.std.proofs.Math.Option.{Option, none, some}
+use Rattle.std.specs.Prelude.{List, [], ◌∷◌, ◌++◌, ℕ, eqb, Option, None, Some}
 use Prim.Native.Char.{code}
 use Prim.Native.String
 use Prim.Native.String.{String}
@@ -42,8 +41,8 @@ abbrev pub canonical : List ℕ → Given
 canonical s = given_by (read_jcal Rfc5545 s)
 
 abbrev pub property_by : Option Refusal → Property → Given
-property_by none p = is (property_json p)
-property_by (some r) p = refusal r 0
+property_by None p = is (property_json p)
+property_by (Some r) p = refusal r 0
 
 abbrev pub elements_of : String → List Json
 elements_of s = read_or [] (as_array (value_of (json s)))

@@ -2,8 +2,7 @@
 --     read_parameter     a parameter with its values typed; none where one of them is bad
 --     are_spelled        whether their values can be spelled in an edition
 --     parameters_good    whether none is repeated, each is readable, permitted and spelled, and BINARY has ENCODING=BASE64 (refusal 7)
-use Rattle.std.specs.Prelude.{Bool, true, false, not, List, [], map, ℕ}
-use Rattle.std.proofs.Math.Option.{Option, none, some}
+use Rattle.std.specs.Prelude.{Bool, true, false, not, List, [], map, ℕ, Option, None, Some}
 use Rattle.octets.specs.Ascii.{ascii}
 use Rattle.octets.specs.Pick.{pick, ◌and◌, ◌or◌}
 use Rattle.octets.specs.Class.{upper}
@@ -25,12 +24,12 @@ use Rattle.json_text.specs.Kinds.{as_string, or_alone}
 
 -- RSVP (3.5, its example)
 abbrev pub read_truth : List ℕ → Option Value
-read_truth s = pick (same s (ascii "TRUE")) (some (boolean true)) (provided (same s (ascii "FALSE")) (boolean false))
+read_truth s = pick (same s (ascii "TRUE")) (Some (boolean true)) (provided (same s (ascii "FALSE")) (boolean false))
 
 -- a word of a closed set exactly; that of an unrecognised parameter is any characters; else as in XML
 abbrev pub read_word_in : Option (List (List ℕ)) → ValueType → List ℕ → Option Value
-read_word_in none t s = pick (same_type t UNKNOWN) (some (unknown s)) (pick (same_type t BOOLEAN) (read_truth s) (read_value xcal t s))
-read_word_in (some words) t s = provided (is_one_of s words) (text s)
+read_word_in None t s = pick (same_type t UNKNOWN) (Some (unknown s)) (pick (same_type t BOOLEAN) (read_truth s) (read_value xcal t s))
+read_word_in (Some words) t s = provided (is_one_of s words) (text s)
 
 abbrev pub read_characters : List ℕ → List ℕ → Option Value
 read_characters n s = read_word_in (parameter_words n) (parameter_type n) s

@@ -1,8 +1,7 @@
 -- The array of a property in jCal (RFC 7265, section 3.4): its name, its parameters, the type of its value, and one value or more.
 --     property_fault ed k vs   the lowest refusal among NAME, FRAME, PARAMETER and VALUE that the array of these elements has in a component k, read in an edition
 --     property_of k vs         the property that it states
-use Rattle.std.specs.Prelude.{Bool, false, not, List, [], ℕ, drop}
-use Rattle.std.proofs.Math.Option.{Option, none, some}
+use Rattle.std.specs.Prelude.{Bool, false, not, List, [], ℕ, drop, Option, None, Some}
 use Rattle.octets.specs.Ascii.{ascii}
 use Rattle.octets.specs.Pick.{pick, ◌and◌, ◌or◌}
 use Rattle.octets.specs.Class.{upper, lower}
@@ -33,7 +32,7 @@ parameters_in vs = and_then (nth 1 vs) as_object
 
 -- a type identifier of RFC 7265: one of the fourteen of RFC 5545 in small letters, or `unknown` (section 5)
 abbrev pub type_of : List ℕ → Option ValueType
-type_of n = pick (same n (ascii "unknown")) (some UNKNOWN) (pick (same n (lower n)) (type_named (upper n)) none)
+type_of n = pick (same n (ascii "unknown")) (Some UNKNOWN) (pick (same n (lower n)) (type_named (upper n)) None)
 
 abbrev pub type_in : List Json → Option ValueType
 type_in vs = and_then (and_then (nth 2 vs) as_string) type_of
@@ -64,8 +63,8 @@ is_bad_parameter m = is_bad_name m.name or same m.name (ascii "value")
 
 -- there is one, and it passes a test
 abbrev pub passes : {A : Type 0} → (A → Bool) → Option A → Bool
-passes f none = false
-passes f (some a) = f a
+passes f None = false
+passes f (Some a) = f a
 
 unfoldable pub names_bad : List Json → Bool
 names_bad vs = passes is_bad_property (name_in vs) or any_one is_bad_parameter (member_list vs)
@@ -82,10 +81,10 @@ is_shaped k vs =
 
 unfoldable pub property_fault : Edition → List ℕ → List Json → Option Refusal
 property_fault ed k vs =
-    pick (names_bad vs) (some NAME)
-    (pick (not (is_shaped k vs)) (some FRAME)
-    (pick (not (parameters_good ed (property_name vs) (value_type_of vs) (member_list vs))) (some PARAMETER)
-    (pick (is_read (read_values k (property_name vs) (value_type_of vs) (values_in vs))) none (some VALUE))))
+    pick (names_bad vs) (Some NAME)
+    (pick (not (is_shaped k vs)) (Some FRAME)
+    (pick (not (parameters_good ed (property_name vs) (value_type_of vs) (member_list vs))) (Some PARAMETER)
+    (pick (is_read (read_values k (property_name vs) (value_type_of vs) (values_in vs))) None (Some VALUE))))
 
 -- what is not read counts as nothing here: such an array is refused
 unfoldable pub property_of : List ℕ → List Json → Property

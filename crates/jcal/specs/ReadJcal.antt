@@ -1,7 +1,7 @@
 -- The answer for a jCal text in an edition: the calendar that it states, or its refusal with its place.
 --     jcal_verdict   refusals 1, 3 and 12 over the whole text, then the first fault in it
 --     read_jcal      the answer
-use Rattle.std.specs.Prelude.{false, List, ℕ, leb, length}
+use Rattle.std.specs.Prelude.{false, List, ℕ, leb, length, Option, None, Some}
 use Rattle.octets.specs.Pick.{pick}
 use Rattle.calendar.specs.Levels.{levels}
 use Rattle.calendar.specs.Refusal.{LENGTH, JSON, Verdict, fine, refuse, ◌otherwise◌, Answer, answer, limit, characters}
@@ -11,13 +11,11 @@ use Rattle.validity.specs.ValidCalendar.{at_top}
 use Rattle.json_text.specs.Bytes.{most_open}
 use Rattle.json_text.specs.Check.{verdict}
 use Rattle.json_text.specs.Tree.{value_of}
-use Rattle.json_text.specs.declared.Checked.{Checked}
-use Rattle.json_text.specs.declared.Checked.TheVariants.{Fine, At}
 use Rattle.jcal.specs.Components.{components_verdict, read_calendars, calendars_in}
 
-abbrev pub json : Checked → Verdict
-json Fine = fine
-json (At p) = refuse JSON p
+abbrev pub json : Option ℕ → Verdict
+json None = fine
+json (Some p) = refuse JSON p
 
 unfoldable pub jcal_verdict : Edition → List ℕ → Verdict
 jcal_verdict ed s =

@@ -1,8 +1,7 @@
 -- The values of a property in jCal (RFC 7265, section 3.6; section 3.4.1 for GEO and REQUEST-STATUS).
 --     read_typed t v         the value of type t that a JSON value states; none where it states none
 --     read_values k n t vs   the values of the property n of a component k, of type t; none where the type is not permitted
-use Rattle.std.specs.Prelude.{List, [], ◌∷◌, ℕ}
-use Rattle.std.proofs.Math.Option.{Option, none, some, map}
+use Rattle.std.specs.Prelude.{List, [], ◌∷◌, ℕ, Option, None, Some, option_map}
 use Rattle.octets.specs.Ascii.{ascii}
 use Rattle.octets.specs.Pick.{pick}
 use Rattle.octets.specs.Class.{upper, lower}
@@ -29,13 +28,13 @@ read_string t v = and_then (as_string v) (read_value xcal t)
 -- ---- 3.6.9 PERIOD: an array of two strings, the start, and the duration or the end
 
 abbrev pub period_from : List ℕ → List ℕ → Option Value
-period_from s e = or_other (map (period_start s) (read_duration xcal e)) (map (period_explicit s) (read_date_time xcal e))
+period_from s e = or_other (option_map (period_start s) (read_duration xcal e)) (option_map (period_explicit s) (read_date_time xcal e))
 
 abbrev pub read_period : List Json → Option Value
-read_period [] = none
-read_period (s ∷ []) = none
+read_period [] = None
+read_period (s ∷ []) = None
 read_period (s ∷ e ∷ []) = and_then (and_then (as_string s) (read_date_time xcal)) (λ m. and_then (as_string e) (period_from m))
-read_period (s ∷ e ∷ v ∷ vs) = none
+read_period (s ∷ e ∷ v ∷ vs) = None
 
 -- ---- 3.6.10 RECUR: an object, a member for each part, in any order
 
@@ -57,10 +56,10 @@ read_items r vs = and_then (read_each (read_item r) vs) (λ is. provided (is_amo
 
 -- the names of parts are in small letters
 abbrev pub read_part : Member → Option RulePart
-read_part m = pick (same m.name (lower m.name)) (and_then (part_of (upper m.name)) (λ r. read_items r (or_alone m.value))) none
+read_part m = pick (same m.name (lower m.name)) (and_then (part_of (upper m.name)) (λ r. read_items r (or_alone m.value))) None
 
 abbrev pub read_recur : List Member → Option Value
-read_recur ms = map recur (and_then (read_each read_part ms) ruled)
+read_recur ms = option_map recur (and_then (read_each read_part ms) ruled)
 
 -- ---- 3.6 by type
 
@@ -73,7 +72,7 @@ read_typed DATE v = read_string DATE v
 read_typed DATE-TIME v = read_string DATE-TIME v
 read_typed DURATION v = read_string DURATION v
 read_typed FLOAT v = and_then (as_number v) (read_value xcal FLOAT)  -- 3.6.7
-read_typed INTEGER v = and_then (as_number v) (λ s. map integer (read_number s))  -- 3.6.8
+read_typed INTEGER v = and_then (as_number v) (λ s. option_map integer (read_number s))  -- 3.6.8
 read_typed PERIOD v = and_then (as_array v) read_period
 read_typed RECUR v = and_then (as_object v) read_recur
 read_typed TEXT v = read_string TEXT v
@@ -84,25 +83,25 @@ read_typed UNKNOWN v = read_string UNKNOWN v  -- section 5
 
 -- a word of a closed set exactly
 abbrev pub read_chosen : Option (List (List ℕ)) → ValueType → Json → Option Value
-read_chosen none t v = read_typed t v
-read_chosen (some words) t v = and_then (as_string v) (λ s. provided (is_one_of s words) (text s))
+read_chosen None t v = read_typed t v
+read_chosen (Some words) t v = and_then (as_string v) (λ s. provided (is_one_of s words) (text s))
 
 -- ---- 3.4.1.1 GEO: an array of two numbers
 
 abbrev pub read_geo : List Json → Option Value
-read_geo [] = none
-read_geo (la ∷ []) = none
-read_geo (la ∷ lo ∷ []) = and_then (and_then (as_number la) read_float) (λ a. and_then (and_then (as_number lo) read_float) (λ o. some (geo a o)))
-read_geo (la ∷ lo ∷ v ∷ vs) = none
+read_geo [] = None
+read_geo (la ∷ []) = None
+read_geo (la ∷ lo ∷ []) = and_then (and_then (as_number la) read_float) (λ a. and_then (and_then (as_number lo) read_float) (λ o. Some (geo a o)))
+read_geo (la ∷ lo ∷ v ∷ vs) = None
 
 -- ---- 3.4.1.2 REQUEST-STATUS: an array of two or three strings
 
 abbrev pub read_status : List (List ℕ) → Option Value
-read_status [] = none
-read_status (c ∷ []) = none
-read_status (c ∷ d ∷ []) = some (request_status c d none)
-read_status (c ∷ d ∷ x ∷ []) = some (request_status c d (some x))
-read_status (c ∷ d ∷ x ∷ s ∷ ss) = none
+read_status [] = None
+read_status (c ∷ []) = None
+read_status (c ∷ d ∷ []) = Some (request_status c d None)
+read_status (c ∷ d ∷ x ∷ []) = Some (request_status c d (Some x))
+read_status (c ∷ d ∷ x ∷ s ∷ ss) = None
 
 -- ---- the values of a property
 
@@ -113,4 +112,4 @@ read_one k n t v =
     (read_chosen (property_words k n) t v))
 
 unfoldable pub read_values : List ℕ → List ℕ → ValueType → List Json → Option (List Value)
-read_values k n t vs = pick (is_type_of t (permitted_types n)) (read_each (read_one k n t) vs) none
+read_values k n t vs = pick (is_type_of t (permitted_types n)) (read_each (read_one k n t) vs) None

@@ -1,8 +1,7 @@
 -- The canonical jCal of a calendar (RFC 7265, section 3): no white space outside strings, escapes only for quote, backslash, LF and TAB.
 --     value_json, parameter_json, property_json, components_json  each as JSON
 --     write_jcal                                                  the text: one calendar alone, two or more in one outer array
-use Rattle.std.specs.Prelude.{List, [], ◌∷◌, map, ℕ}
-use Rattle.std.proofs.Math.Option.{Option, none, some}
+use Rattle.std.specs.Prelude.{List, [], ◌∷◌, map, ℕ, Option, None, Some}
 use Rattle.octets.specs.Class.{lower}
 use Rattle.calendar.specs.Calendar.{ical, xcal, RuleItem, moment, number, word, weekday, RulePart, Value, binary, boolean, cal_address, date, date_time, duration, float, integer, period_explicit, period_start, recur, text, time, uri, utc_offset, unknown, geo, request_status, Parameter, Property, Components, no_more, component}
 use Rattle.schema.specs.Types.{type_name}
@@ -33,8 +32,8 @@ abbrev pub part_json : RulePart → List ℕ
 part_json p = member_of (lower p.part) (one_or_array (map item_json p.items))
 
 abbrev pub data_json : Option (List ℕ) → List (List ℕ)
-data_json none = []
-data_json (some s) = quoted s ∷ []
+data_json None = []
+data_json (Some s) = quoted s ∷ []
 
 -- the characters are those of the XML element: BOOLEAN, FLOAT and INTEGER as they stand, the other types as a string
 unfoldable pub value_json : Value → List ℕ

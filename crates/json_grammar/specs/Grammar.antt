@@ -8,8 +8,7 @@
 --     JsonText most s            and its strings name only what they may
 -- `Check` of crate json_text goes a byte at a time; it accepts exactly the texts of JsonText (laws/JsonGrammar).
 -- A char above ASCII is a run of bytes from 0x80 on, each of which counts as a char: that a text is UTF-8 is checked before.
-use Rattle.std.specs.Prelude.{◌≡◌, Bool, true, false, not, List, [], ◌∷◌, ℕ, ◌+◌, ◌*◌, max, ◌≤◌, eqb, leb}
-use Rattle.std.proofs.Math.Option.{Option, none, some}
+use Rattle.std.specs.Prelude.{◌≡◌, Bool, true, false, not, List, [], ◌∷◌, ℕ, ◌+◌, ◌*◌, max, ◌≤◌, eqb, leb, Option, None, Some}
 use Rattle.octets.specs.Ascii.{ascii}
 use Rattle.octets.specs.Pick.{pick, within, ◌and◌, ◌or◌}
 use Rattle.octets.specs.Append.{◌⊕◌}
@@ -30,8 +29,8 @@ spelled_bytes (b ∷ bs) = b.byte ∷ spelled_bytes bs
 
 -- [ rule ]
 unfoldable pub optional : {A : Type 0} → (A → List ℕ) → Option A → List ℕ
-optional spelled none = []
-optional spelled (some a) = spelled a
+optional spelled None = []
+optional spelled (Some a) = spelled a
 
 -- ---- section 2
 

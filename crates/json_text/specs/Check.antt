@@ -1,6 +1,6 @@
 -- The check of a JSON text (RFC 8259), a byte at a time.
 --     move     what a byte does, in the state that the bytes before it lead to
---     verdict  Fine, or the place of the fault
+--     verdict  None, or the place of the fault
 -- A state is what the bytes so far are the beginning of, by the grammar's rules:
 --     Expects   between tokens. Value: a value must come. ValueOrEnd: after `[`. NameOrEnd: after `{`. Name: after `,` in an object.
 --               Colon: after a name. After: after a value
@@ -18,7 +18,7 @@
 -- escape (Bad from), and an opening past the limit. Each is told as soon as it is sure, so that no fault before it in the text is passed over: after a high
 -- surrogate's escape whatever is not the whole escape of a low one, the end of the text too, is its fault and so at `from`.
 -- Bytes from 0x20 on stand for themselves in a string: which characters a text may hold, and that it is UTF-8, is checked before.
-use Rattle.std.specs.Prelude.{Bool, true, false, List, [], ◌∷◌, ℕ, ◌+◌, ◌-◌, ◌/◌, ◌%◌, eqb, ltb, length}
+use Rattle.std.specs.Prelude.{Bool, true, false, List, [], ◌∷◌, ℕ, ◌+◌, ◌-◌, ◌/◌, ◌%◌, eqb, ltb, length, Option, None, Some}
 use Rattle.octets.specs.Pick.{pick}
 use Rattle.octets.specs.Class.{is_space, is_digit}
 use Rattle.json_text.specs.Bytes.{begin_array, end_array, begin_object, end_object, name_separator, value_separator, after_t, after_f, after_n, minus, is_sign, digit_zero, decimal_point, is_e, quotation_mark, escape, letter_u, names_good, names_bad, hex_value, grown, is_high, is_low, named_bad}
@@ -34,8 +34,6 @@ use Rattle.json_text.specs.declared.State.{State}
 use Rattle.json_text.specs.declared.State.TheVariants.{Expects, InLiteral, InNumber, InString}
 use Rattle.json_text.specs.declared.Move.{Move}
 use Rattle.json_text.specs.declared.Move.TheVariants.{To, OpenArray, OpenObject, Close, Bad}
-use Rattle.json_text.specs.declared.Checked.{Checked}
-use Rattle.json_text.specs.declared.Checked.TheVariants.{Fine, At}
 
 -- ---- between tokens (sections 2 to 5)
 
@@ -172,40 +170,40 @@ move (InNumber n) a i b = number n a i b
 move (InString n t) a i b = string t n i b
 
 -- the end of the text, which has l bytes: a value has ended, and nothing is open
-abbrev pub closed : Around → ℕ → Checked
-closed Nothing l = Fine
-closed Array l = At l
-closed Object l = At l
+abbrev pub closed : Around → ℕ → Option ℕ
+closed Nothing l = None
+closed Array l = Some l
+closed Object l = Some l
 
-abbrev pub number_end : Number → Around → ℕ → Checked
-number_end Minus a l = At l
+abbrev pub number_end : Number → Around → ℕ → Option ℕ
+number_end Minus a l = Some l
 number_end Zero a l = closed a l
 number_end Int a l = closed a l
-number_end Point a l = At l
+number_end Point a l = Some l
 number_end Frac a l = closed a l
-number_end E a l = At l
-number_end Sign a l = At l
+number_end E a l = Some l
+number_end Sign a l = Some l
 number_end Exp a l = closed a l
 
-abbrev pub string_end : Inside → ℕ → Checked
-string_end Chars l = At l
-string_end (Escape from) l = At l
-string_end (Hex from k v) l = At l
-string_end (High from) l = At from
-string_end (HighEscape from) l = At from
-string_end (Low from k v) l = At from
+abbrev pub string_end : Inside → ℕ → Option ℕ
+string_end Chars l = Some l
+string_end (Escape from) l = Some l
+string_end (Hex from k v) l = Some l
+string_end (High from) l = Some from
+string_end (HighEscape from) l = Some from
+string_end (Low from k v) l = Some from
 
-abbrev pub expect_end : Expect → Around → ℕ → Checked
-expect_end Value a l = At l
-expect_end ValueOrEnd a l = At l
-expect_end Name a l = At l
-expect_end NameOrEnd a l = At l
-expect_end Colon a l = At l
+abbrev pub expect_end : Expect → Around → ℕ → Option ℕ
+expect_end Value a l = Some l
+expect_end ValueOrEnd a l = Some l
+expect_end Name a l = Some l
+expect_end NameOrEnd a l = Some l
+expect_end Colon a l = Some l
 expect_end After a l = closed a l
 
-abbrev pub end : State → Around → ℕ → Checked
+abbrev pub end : State → Around → ℕ → Option ℕ
 end (Expects e) a l = expect_end e a l
-end (InLiteral w) a l = At l
+end (InLiteral w) a l = Some l
 end (InNumber n) a l = number_end n a l
 end (InString n t) a l = string_end t l
 
@@ -224,18 +222,18 @@ outer [] = []
 outer (c ∷ cs) = cs
 
 -- what a move leads to, with the rest of the text checked by `rest`
-unfoldable pub followed : Move → ℕ → ℕ → List Container → (State → List Container → Checked) → Checked
+unfoldable pub followed : Move → ℕ → ℕ → List Container → (State → List Container → Option ℕ) → Option ℕ
 followed (To st) limit i cs rest = rest st cs
-followed OpenArray limit i cs rest = pick (ltb (length cs) limit) (rest (Expects ValueOrEnd) (array ∷ cs)) (At i)
-followed OpenObject limit i cs rest = pick (ltb (length cs) limit) (rest (Expects NameOrEnd) (object ∷ cs)) (At i)
+followed OpenArray limit i cs rest = pick (ltb (length cs) limit) (rest (Expects ValueOrEnd) (array ∷ cs)) (Some i)
+followed OpenObject limit i cs rest = pick (ltb (length cs) limit) (rest (Expects NameOrEnd) (object ∷ cs)) (Some i)
 followed Close limit i cs rest = rest (Expects After) (outer cs)
-followed (Bad p) limit i cs rest = At p
+followed (Bad p) limit i cs rest = Some p
 
 -- the rest s of a text, from the place i on
-unfoldable pub check : List ℕ → ℕ → ℕ → State → List Container → Checked
+unfoldable pub check : List ℕ → ℕ → ℕ → State → List Container → Option ℕ
 check [] limit i st cs = end st (around cs) i
 check (b ∷ s) limit i st cs = followed (move st (around cs) i b) limit i cs (check s limit (i + 1))
 
 -- a text, with at most `limit` arrays and objects open at once
-abbrev pub verdict : ℕ → List ℕ → Checked
+abbrev pub verdict : ℕ → List ℕ → Option ℕ
 verdict limit s = check s limit 0 (Expects Value) []

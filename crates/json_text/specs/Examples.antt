@@ -1,15 +1,13 @@
 -- By computation: texts and their verdicts, with at most 32 arrays and objects open but for the last ones; the value that a text states; strings written.
-use Rattle.std.specs.Prelude.{◌≡◌, refl, List, [], ◌∷◌, map, ℕ}
+use Rattle.std.specs.Prelude.{◌≡◌, refl, List, [], ◌∷◌, map, ℕ, Option, None, Some}
 use Prim.Native.String.{String}
 use Rattle.octets.specs.Ascii.{ascii}
 use Rattle.json_text.specs.Check.{verdict}
 use Rattle.json_text.specs.Tree.{string, number, literal, array, object, no_elements, element, no_members, member, value_of}
 use Rattle.json_text.specs.Write.{quoted, array_of, member_of, object_of}
 use Rattle.json_text.specs.Computing.{json_compute}
-use Rattle.json_text.specs.declared.Checked.{Checked}
-use Rattle.json_text.specs.declared.Checked.TheVariants.{Fine, At}
 
-abbrev verdicts : ℕ → List String → List Checked
+abbrev verdicts : ℕ → List String → List (Option ℕ)
 verdicts limit ts = map (λ (t : String). verdict limit (ascii t)) ts
 
 -- texts of the grammar (the last is of RFC 8259, section 13, with less in it)
@@ -17,7 +15,7 @@ good : verdicts 32 (
     "null" ∷ " true " ∷ "[false]" ∷ "0" ∷ "-0" ∷ "-10.50e+07" ∷ "1E9" ∷ "1e-0" ∷ "[]" ∷ "{}" ∷ "[ ]\r\n" ∷ "{\t}" ∷
     "[[],{},[[]]]" ∷ "{\"\":{\"a\":[]},\"a\":1}" ∷ "\"\"" ∷ "\"a\\\"\\\\\\/\\n\\t\"" ∷ "\"\\u00e9\\uFFFD\"" ∷ "\"\\uD83D\\ude00\"" ∷ "[1 , 2\n]" ∷
     "{\n \"Image\": {\"Width\":  800, \"IDs\": [116, 943, 234, 38793]}\n}" ∷ [])
-    ≡ Fine ∷ Fine ∷ Fine ∷ Fine ∷ Fine ∷ Fine ∷ Fine ∷ Fine ∷ Fine ∷ Fine ∷ Fine ∷ Fine ∷ Fine ∷ Fine ∷ Fine ∷ Fine ∷ Fine ∷ Fine ∷ Fine ∷ Fine ∷ []
+    ≡ None ∷ None ∷ None ∷ None ∷ None ∷ None ∷ None ∷ None ∷ None ∷ None ∷ None ∷ None ∷ None ∷ None ∷ None ∷ None ∷ None ∷ None ∷ None ∷ None ∷ []
 unfolding json_compute
 good = refl
 
@@ -25,15 +23,15 @@ good = refl
 bad : verdicts 32 (
     "nulL" ∷ "truee" ∷ "01" ∷ "-a" ∷ "1.e" ∷ "1e+]" ∷ "+1" ∷ ".5" ∷ "[1,]" ∷ "[,1]" ∷ "[1 2]" ∷ "[1}" ∷
     "{\"a\"}" ∷ "{\"a\":1,}" ∷ "{a:1}" ∷ "{\"a\":1]" ∷ "]" ∷ "[]]" ∷ "1,2" ∷ "\"a\tb\"" ∷ "\"\\x\"" ∷ "\"\\u00g0\"" ∷ "'a'" ∷ "[] []" ∷ [])
-    ≡ At 3 ∷ At 4 ∷ At 1 ∷ At 1 ∷ At 2 ∷ At 3 ∷ At 0 ∷ At 0 ∷ At 3 ∷ At 1 ∷ At 3 ∷ At 2 ∷
-    At 4 ∷ At 7 ∷ At 1 ∷ At 6 ∷ At 0 ∷ At 2 ∷ At 1 ∷ At 2 ∷ At 2 ∷ At 5 ∷ At 0 ∷ At 3 ∷ []
+    ≡ Some 3 ∷ Some 4 ∷ Some 1 ∷ Some 1 ∷ Some 2 ∷ Some 3 ∷ Some 0 ∷ Some 0 ∷ Some 3 ∷ Some 1 ∷ Some 3 ∷ Some 2 ∷
+    Some 4 ∷ Some 7 ∷ Some 1 ∷ Some 6 ∷ Some 0 ∷ Some 2 ∷ Some 1 ∷ Some 2 ∷ Some 2 ∷ Some 5 ∷ Some 0 ∷ Some 3 ∷ []
 unfolding json_compute
 bad = refl
 
 -- cut short: the length
 short : verdicts 32 (
     "" ∷ "  " ∷ "nul" ∷ "-" ∷ "1." ∷ "1e" ∷ "1e-" ∷ "[" ∷ "[1" ∷ "[1," ∷ "{" ∷ "{\"a" ∷ "{\"a\"" ∷ "{\"a\":" ∷ "{\"a\":1" ∷ "\"" ∷ "\"\\" ∷ "\"\\u00" ∷ "\"\\uD83" ∷ "[[]" ∷ [])
-    ≡ At 0 ∷ At 2 ∷ At 3 ∷ At 1 ∷ At 2 ∷ At 2 ∷ At 3 ∷ At 1 ∷ At 2 ∷ At 3 ∷ At 1 ∷ At 3 ∷ At 4 ∷ At 5 ∷ At 6 ∷ At 1 ∷ At 2 ∷ At 5 ∷ At 6 ∷ At 3 ∷ []
+    ≡ Some 0 ∷ Some 2 ∷ Some 3 ∷ Some 1 ∷ Some 2 ∷ Some 2 ∷ Some 3 ∷ Some 1 ∷ Some 2 ∷ Some 3 ∷ Some 1 ∷ Some 3 ∷ Some 4 ∷ Some 5 ∷ Some 6 ∷ Some 1 ∷ Some 2 ∷ Some 5 ∷ Some 6 ∷ Some 3 ∷ []
 unfolding json_compute
 short = refl
 
@@ -41,8 +39,8 @@ short = refl
 names : verdicts 32 (
     "\"\\b\"" ∷ "[\"a\\f\"]" ∷ "\"\\r\"" ∷ "\"\\u0000\"" ∷ "\"\\u000D\"" ∷ "\"\\u001f\"" ∷ "\"a\\u007F\"" ∷ "\"\\uFFFE\"" ∷ "\"\\uffff\"" ∷
     "\"\\u0009\\u000A\\u0020\"" ∷ "{\"\\u000b\":1}" ∷ "\"\\u001" ∷ "\"\\u000x" ∷ [])
-    ≡ At 1 ∷ At 3 ∷ At 1 ∷ At 1 ∷ At 1 ∷ At 1 ∷ At 2 ∷ At 1 ∷ At 1 ∷
-    Fine ∷ At 2 ∷ At 6 ∷ At 6 ∷ []
+    ≡ Some 1 ∷ Some 3 ∷ Some 1 ∷ Some 1 ∷ Some 1 ∷ Some 1 ∷ Some 2 ∷ Some 1 ∷ Some 1 ∷
+    None ∷ Some 2 ∷ Some 6 ∷ Some 6 ∷ []
 unfolding json_compute
 names = refl
 
@@ -50,21 +48,21 @@ names = refl
 surrogates : verdicts 32 (
     "\"\\uDC00\"" ∷ "\"\\uD800\"" ∷ "\"a\\uD800b\"" ∷ "\"\\uD800\\n\"" ∷ "\"\\uD800\\uD800\\uDC00\"" ∷ "\"\\uD800\\u0041\"" ∷ "\"\\uDBFF\\uE000\"" ∷
     "\"\\uD800" ∷ "\"\\uD800\\" ∷ "\"\\uD800\\uDC0" ∷ "\"\\uD800\\x" ∷ "\"\\uD800\\uDCxx" ∷ "\"\\uD800\\uDC00" ∷ "\"\\uD800\\uDC00\\uDC00\"" ∷ [])
-    ≡ At 1 ∷ At 1 ∷ At 2 ∷ At 1 ∷ At 1 ∷ At 1 ∷ At 1 ∷
-    At 1 ∷ At 1 ∷ At 1 ∷ At 1 ∷ At 1 ∷ At 13 ∷ At 13 ∷ []
+    ≡ Some 1 ∷ Some 1 ∷ Some 2 ∷ Some 1 ∷ Some 1 ∷ Some 1 ∷ Some 1 ∷
+    Some 1 ∷ Some 1 ∷ Some 1 ∷ Some 1 ∷ Some 1 ∷ Some 13 ∷ Some 13 ∷ []
 unfolding json_compute
 surrogates = refl
 
 -- an opening past the limit, at its byte
 deep : verdicts 2 ("[[]]" ∷ "[[],{}]" ∷ "[[[]]]" ∷ "[{\"a\":{}}]" ∷ "[[1,[" ∷ [])
-    ≡ Fine ∷ Fine ∷ At 2 ∷ At 6 ∷ At 4 ∷ []
+    ≡ None ∷ None ∷ Some 2 ∷ Some 6 ∷ Some 4 ∷ []
 unfolding json_compute
 deep = refl
 
 limit : verdicts 32 (
     "[[[[[[[[[[[[[[[[[[[[[[[[[[[[[[[[]]]]]]]]]]]]]]]]]]]]]]]]]]]]]]]]" ∷
     "[[[[[[[[[[[[[[[[[[[[[[[[[[[[[[[[[]" ∷ [])
-    ≡ Fine ∷ At 32 ∷ []
+    ≡ None ∷ Some 32 ∷ []
 unfolding json_compute
 limit = refl
 

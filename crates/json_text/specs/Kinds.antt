@@ -3,52 +3,51 @@
 --     as_array, as_object               its elements, its members
 --     or_alone                          the elements of an array; of any other value, itself alone
 --     nth k vs                          element k of a list, from 0
-use Rattle.std.specs.Prelude.{List, [], ◌∷◌, ℕ, drop}
-use Rattle.std.proofs.Math.Option.{Option, none, some}
+use Rattle.std.specs.Prelude.{List, [], ◌∷◌, ℕ, drop, Option, None, Some}
 use Rattle.octets.specs.Reading.{read_or}
 use Rattle.json_text.specs.Tree.{Json, string, number, literal, array, object, Member, element_list, member_list}
 
 abbrev pub as_string : Json → Option (List ℕ)
-as_string (string p s) = some s
-as_string (number p s) = none
-as_string (literal p s) = none
-as_string (array p e vs) = none
-as_string (object p e ms) = none
+as_string (string p s) = Some s
+as_string (number p s) = None
+as_string (literal p s) = None
+as_string (array p e vs) = None
+as_string (object p e ms) = None
 
 abbrev pub as_number : Json → Option (List ℕ)
-as_number (string p s) = none
-as_number (number p s) = some s
-as_number (literal p s) = none
-as_number (array p e vs) = none
-as_number (object p e ms) = none
+as_number (string p s) = None
+as_number (number p s) = Some s
+as_number (literal p s) = None
+as_number (array p e vs) = None
+as_number (object p e ms) = None
 
 abbrev pub as_literal : Json → Option (List ℕ)
-as_literal (string p s) = none
-as_literal (number p s) = none
-as_literal (literal p s) = some s
-as_literal (array p e vs) = none
-as_literal (object p e ms) = none
+as_literal (string p s) = None
+as_literal (number p s) = None
+as_literal (literal p s) = Some s
+as_literal (array p e vs) = None
+as_literal (object p e ms) = None
 
 abbrev pub as_array : Json → Option (List Json)
-as_array (string p s) = none
-as_array (number p s) = none
-as_array (literal p s) = none
-as_array (array p e vs) = some (element_list vs)
-as_array (object p e ms) = none
+as_array (string p s) = None
+as_array (number p s) = None
+as_array (literal p s) = None
+as_array (array p e vs) = Some (element_list vs)
+as_array (object p e ms) = None
 
 abbrev pub as_object : Json → Option (List Member)
-as_object (string p s) = none
-as_object (number p s) = none
-as_object (literal p s) = none
-as_object (array p e vs) = none
-as_object (object p e ms) = some (member_list ms)
+as_object (string p s) = None
+as_object (number p s) = None
+as_object (literal p s) = None
+as_object (array p e vs) = None
+as_object (object p e ms) = Some (member_list ms)
 
 abbrev pub or_alone : Json → List Json
 or_alone v = read_or (v ∷ []) (as_array v)
 
 abbrev pub first_in : List Json → Option Json
-first_in [] = none
-first_in (v ∷ vs) = some v
+first_in [] = None
+first_in (v ∷ vs) = Some v
 
 abbrev pub nth : ℕ → List Json → Option Json
 nth k vs = first_in (drop k vs)

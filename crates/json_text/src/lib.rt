@@ -1,5 +1,5 @@
 // The check of a JSON text, RFC 8259, in one pass: see specs/Check.antt. The characters of its strings: see specs/CharAt.antt.
-#![tactic(auto)]
+#![tactic(auto, using(octets::specs::laws::Pick::branching_joined))]
 
 mod bytes;
 mod characters;
@@ -18,21 +18,14 @@ use strings::in_string;
 use structure::{between_tokens, in_literal};
 
 // The character at a place in a string: a byte, END where none stands there, 257 and its code point where an escape of digits does; and the place after it.
-#[derive(Clone, Copy)]
+#[derive(Clone, Copy, Debug, PartialEq, Eq)]
 pub struct CharRead {
     pub u: usize,
     pub next: usize,
 }
 
-// What is found: no fault, or its place.
-#[derive(Clone, Copy)]
-pub enum Checked {
-    Fine,
-    At(usize),
-}
-
 // The innermost array or object that is open.
-#[derive(Clone, Copy)]
+#[derive(Clone, Copy, Debug, PartialEq, Eq)]
 pub enum Around {
     Nothing,
     Array,
@@ -40,7 +33,7 @@ pub enum Around {
 }
 
 // Between tokens: what may come.
-#[derive(Clone, Copy)]
+#[derive(Clone, Copy, Debug, PartialEq, Eq)]
 pub enum Expect {
     Value,
     ValueOrEnd,
@@ -51,7 +44,7 @@ pub enum Expect {
 }
 
 // In a number: what was read last.
-#[derive(Clone, Copy)]
+#[derive(Clone, Copy, Debug, PartialEq, Eq)]
 pub enum Number {
     Minus,
     Zero,
@@ -64,7 +57,7 @@ pub enum Number {
 }
 
 // In a string: between its characters, or in an escape that began at the first number.
-#[derive(Clone, Copy)]
+#[derive(Clone, Copy, Debug, PartialEq, Eq)]
 pub enum Inside {
     Chars,
     Escape(usize),
@@ -74,7 +67,7 @@ pub enum Inside {
     Low(usize, u8, u32),
 }
 
-#[derive(Clone, Copy)]
+#[derive(Clone, Copy, Debug, PartialEq, Eq)]
 pub enum State {
     Expects(Expect),
     InLiteral(u64),
@@ -83,7 +76,7 @@ pub enum State {
 }
 
 // What a byte does.
-#[derive(Clone, Copy)]
+#[derive(Clone, Copy, Debug, PartialEq, Eq)]
 pub enum Move {
     To(State),
     OpenArray,
@@ -97,22 +90,19 @@ fn innermost(n: u64) -> Around
     ensures { result ≡ around_of n }
 {
     if n < 2 {
-        return Around::Nothing;
+        Around::Nothing
+    } else if n % 2 == 0 {
+        Around::Array
+    } else {
+        Around::Object
     }
-    if n % 2 == 0 {
-        return Around::Array;
-    }
-    Around::Object
 }
 
 // What is open, without the innermost.
 fn without_innermost(n: u64) -> u64
     ensures { result ≡ outer_of n }
 {
-    if n < 2 {
-        return n;
-    }
-    n / 2
+    if n < 2 { n } else { n / 2 }
 }
 
 // What the byte `b` at `i` does.
@@ -127,65 +117,65 @@ fn step(st: State, a: Around, i: usize, b: u8) -> Move
     }
 }
 
-// ---- the end of a text of `l` bytes
+// ---- the end of a text of `l` bytes: the place of a fault that it ends in
 
-fn end_outside(a: Around, l: usize) -> Checked
+fn end_outside(a: Around, l: usize) -> Option<usize>
     ensures { result ≡ closed a l }
 {
     match a {
-        Around::Nothing => Checked::Fine,
-        Around::Array => Checked::At(l),
-        Around::Object => Checked::At(l),
+        Around::Nothing => None,
+        Around::Array => Some(l),
+        Around::Object => Some(l),
     }
 }
 
-fn end_expecting(e: Expect, a: Around, l: usize) -> Checked
+fn end_expecting(e: Expect, a: Around, l: usize) -> Option<usize>
     ensures { result ≡ expect_end e a l }
 {
     match e {
-        Expect::Value => Checked::At(l),
-        Expect::ValueOrEnd => Checked::At(l),
-        Expect::Name => Checked::At(l),
-        Expect::NameOrEnd => Checked::At(l),
-        Expect::Colon => Checked::At(l),
+        Expect::Value => Some(l),
+        Expect::ValueOrEnd => Some(l),
+        Expect::Name => Some(l),
+        Expect::NameOrEnd => Some(l),
+        Expect::Colon => Some(l),
         Expect::After => end_outside(a, l),
     }
 }
 
-fn end_in_number(n: Number, a: Around, l: usize) -> Checked
+fn end_in_number(n: Number, a: Around, l: usize) -> Option<usize>
     ensures { result ≡ number_end n a l }
 {
     match n {
-        Number::Minus => Checked::At(l),
+        Number::Minus => Some(l),
         Number::Zero => end_outside(a, l),
         Number::Int => end_outside(a, l),
-        Number::Point => Checked::At(l),
+        Number::Point => Some(l),
         Number::Frac => end_outside(a, l),
-        Number::E => Checked::At(l),
-        Number::Sign => Checked::At(l),
+        Number::E => Some(l),
+        Number::Sign => Some(l),
         Number::Exp => end_outside(a, l),
     }
 }
 
-fn end_in_string(t: Inside, l: usize) -> Checked
+fn end_in_string(t: Inside, l: usize) -> Option<usize>
     ensures { result ≡ string_end t l }
 {
     match t {
-        Inside::Chars => Checked::At(l),
-        Inside::Escape(_) => Checked::At(l),
-        Inside::Hex(_, _, _) => Checked::At(l),
-        Inside::High(from) => Checked::At(from),
-        Inside::HighEscape(from) => Checked::At(from),
-        Inside::Low(from, _, _) => Checked::At(from),
+        Inside::Chars => Some(l),
+        Inside::Escape(_) => Some(l),
+        Inside::Hex(_, _, _) => Some(l),
+        Inside::High(from) => Some(from),
+        Inside::HighEscape(from) => Some(from),
+        Inside::Low(from, _, _) => Some(from),
     }
 }
 
-fn at_end(st: State, a: Around, l: usize) -> Checked
+fn at_end(st: State, a: Around, l: usize) -> Option<usize>
     ensures { result ≡ end st a l }
 {
     match st {
         State::Expects(e) => end_expecting(e, a, l),
-        State::InLiteral(_) => Checked::At(l),
+        State::InLiteral(_) => Some(l),
         State::InNumber(n) => end_in_number(n, a, l),
         State::InString(_, t) => end_in_string(t, l),
     }
@@ -194,8 +184,8 @@ fn at_end(st: State, a: Around, l: usize) -> Checked
 // The codes of `most_open` and more open arrays and objects begin here: 2 to that power.
 const FULL: u64 = 0x1_0000_0000;
 
-// Whether `s` is a JSON text with at most `most_open` arrays and objects open at once, or the place of its fault.
-pub fn json_fault(s: &[u8]) -> Checked
+// The place of the fault of `s`, if it is no JSON text with at most `most_open` arrays and objects open at once.
+pub fn json_fault(s: &[u8]) -> Option<usize>
     ensures { result ≡ verdict most_open s.now }
 {
     let mut st = State::Expects(Expect::Value);
@@ -203,15 +193,14 @@ pub fn json_fault(s: &[u8]) -> Checked
     let mut i = 0;
     while i < s.len() {
         let a = innermost(n);
-        let m = step(st, a, i, s[i]);
-        match m {
+        match step(st, a, i, s[i]) {
             Move::To(next) => {
                 st = next;
                 i += 1;
             }
             Move::OpenArray => {
                 if FULL <= n {
-                    return Checked::At(i);
+                    return Some(i);
                 }
                 st = State::Expects(Expect::ValueOrEnd);
                 n = n * 2;
@@ -219,7 +208,7 @@ pub fn json_fault(s: &[u8]) -> Checked
             }
             Move::OpenObject => {
                 if FULL <= n {
-                    return Checked::At(i);
+                    return Some(i);
                 }
                 st = State::Expects(Expect::NameOrEnd);
                 n = n * 2 + 1;
@@ -230,9 +219,7 @@ pub fn json_fault(s: &[u8]) -> Checked
                 n = without_innermost(n);
                 i += 1;
             }
-            Move::Bad(p) => {
-                return Checked::At(p);
-            }
+            Move::Bad(p) => return Some(p),
         }
     }
     at_end(st, innermost(n), i)

@@ -4,7 +4,7 @@
 --     row h l n        the word whose halves are h and l has the place n;   group m rs: rows whose low halves are below m
 --     lookup, find     the place that rows give, that groups give, the last of them with no bound; d where there is none
 --     agree            groups and names agree, by `refl` with `unfolding packing_compute`
-use Rattle.std.specs.Prelude.{◌≡◌, Bool, false, ◌&&◌, List, [], ◌∷◌, ◌++◌, ℕ, ◌+◌, ◌*◌, ◌/◌, ◌%◌, ◌^◌, eqb, ltb, length}
+use Rattle.std.specs.Prelude.{◌≡◌, Bool, false, ◌&&◌, List, [], ◌∷◌, ℕ, ◌+◌, ◌*◌, ◌/◌, ◌%◌, ◌^◌, eqb, ltb, length}
 use Rattle.octets.specs.Pick.{pick, ◌and◌, ◌or◌}
 use Rattle.octets.specs.Words.{same}
 use Rattle.octets.specs.Lists.{every}

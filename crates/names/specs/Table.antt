@@ -2,8 +2,7 @@
 --     names_in t       the names of a table; bytes after the last line feed count for nothing
 --     place_of w ws    the place of the word w in a list; the number of all words where it is not there
 --     nth l k          the element at a place
-use Rattle.std.specs.Prelude.{List, [], ◌∷◌, ℕ, zero, suc, eqb}
-use Rattle.std.proofs.Math.Option.{Option, none, some}
+use Rattle.std.specs.Prelude.{List, [], ◌∷◌, ℕ, zero, suc, eqb, Option, None, Some}
 use Rattle.octets.specs.Pick.{pick}
 use Rattle.octets.specs.Words.{same}
 
@@ -23,6 +22,6 @@ names_in (t ∷ ts) = pick (eqb t 10) ([] ∷ names_in ts) (in_first t (names_in
 -- ---- the row of a table by its name's place
 
 unfoldable pub nth : {A : Type 0} → List A → ℕ → Option A
-nth [] k = none
-nth (a ∷ l) zero = some a
+nth [] k = None
+nth (a ∷ l) zero = Some a
 nth (a ∷ l) (suc k) = nth l k

@@ -6,14 +6,13 @@ pub mod packed;
 mod plain;
 
 ghost use Rattle.std.specs.Prelude.{◌≡◌, ◌≤◌, length};
-ghost use Rattle.octets.specs.Pick.{◌and◌};
 ghost use Rattle.octets.specs.Class.{is_name_char, upper, lower};
-ghost use Rattle.octets.specs.Words.{same, is_empty};
+ghost use Rattle.octets.specs.Words.{same};
 ghost use Rattle.source.specs.Source.{rest};
 ghost use Rattle.sink.specs.Sink.{Put};
 ghost use Rattle.names.specs.Case.{cased, cased_byte, case_of};
 ghost use Rattle.names.specs.Table.{place_of, names_in};
-ghost use Rattle.names.specs.Matching.{Turned, Passes};
+ghost use Rattle.names.specs.Matching.{is_over, Turned, Passes};
 ghost use Rattle.names.specs.Runs.{RunEnds};
 
 use octets::unit::END;
@@ -23,27 +22,17 @@ use sink::put;
 use source::unit;
 
 // The case in which a word is compared or written.
-#[derive(Clone, Copy)]
+#[derive(Clone, Copy, Debug, PartialEq, Eq)]
 pub enum Case {
     Kept,
     Capital,
     Small,
 }
 
-// After a byte of a table's name: the cursor in the word, and whether the two are the same so far.
-#[derive(Clone, Copy)]
-pub struct Matched {
-    pub at: usize,
-    pub ok: bool,
-}
-
 fn case_of(xcal: bool) -> Case
     ensures { result ≡ case_of xcal }
 {
-    if xcal {
-        return Case::Kept;
-    }
-    Case::Capital
+    if xcal { Case::Kept } else { Case::Capital }
 }
 
 fn cased_unit(k: Case, u: usize) -> usize
@@ -56,34 +45,25 @@ fn cased_unit(k: Case, u: usize) -> usize
     }
 }
 
-// A word that is the same so far is at its end.
-fn is_end(mode: usize, s: &[u8], at: usize, ok: bool) -> bool
-    ensures { result ≡ (ok and is_empty (rest mode s.now at)) }
+// A word whose cursor is `word` is at its end; one that has no cursor differs already.
+fn is_end(mode: usize, s: &[u8], word: Option<usize>) -> bool
+    ensures { result ≡ is_over mode s.now word }
 {
-    if ok {
-        let n = unit(mode, s, at);
-        return n.u == END;
+    match word {
+        Some(at) => unit(mode, s, at).u == END,
+        None => false,
     }
-    false
 }
 
-// A word goes on with the byte `t` of a table's name, in the case `k`.
-fn turn(k: Case, mode: usize, s: &[u8], at: usize, ok: bool, t: u8) -> Matched
-    ensures { Turned k mode s.now at ok t result }
+// The cursor in a word that goes on, in the case `k`, with the byte `t` of a table's name; `word` is that before it, as long as the two are the same.
+fn turn(k: Case, mode: usize, s: &[u8], word: Option<usize>, t: u8) -> Option<usize>
+    ensures { Turned k mode s.now word t result }
 {
-    if ok {
-        let n = unit(mode, s, at);
-        let v = cased_unit(k, n.u);
-        let w = wide(t);
-        if v == w {
-            return Matched {
-                at: n.next,
-                ok: true,
-            };
-        }
-        return Matched { at, ok: false };
+    let n = unit(mode, s, word?);
+    if cased_unit(k, n.u) == wide(t) {
+        return Some(n.next);
     }
-    Matched { at, ok: false }
+    None
 }
 
 // Where the name that stands at `from` in a table is over: at its line feed, or at the end of the table.
@@ -106,41 +86,33 @@ fn find_cased(k: Case, mode: usize, s: &[u8], at: usize, table: &[u8]) -> usize
     ensures { result ≡ place_of (cased k (rest mode s.now at)) (names_in table.now) }
 {
     let mut name = 0;
-    let mut c = at;
-    let mut ok = true;
+    let mut word = Some(at);
     let mut i = 0;
     while i < table.len() {
         let t = table[i];
         if t == b'\n' {
-            let end = is_end(mode, s, c, ok);
-            if end {
+            if is_end(mode, s, word) {
                 return name;
             }
             name += 1;
-            c = at;
-            ok = true;
+            word = Some(at);
             i += 1;
         } else {
-            let m = turn(k, mode, s, c, ok, t);
-            if m.ok {
-                c = m.at;
-                ok = true;
-                i += 1;
-            } else {
-                ok = false;
-                i = name_over(table, i + 1);
+            word = turn(k, mode, s, word, t);
+            match word {
+                Some(_) => i += 1,
+                None => i = name_over(table, i + 1),
             }
         }
     }
     name
 }
 
-// The number of a word, in any case in text, as it stands in XML.
+// The number of a word, in any case in text, as it stands in XML; the number of all names where the table has none such: that is the number of an unrecognised type or part.
 pub fn find_word(xcal: bool, mode: usize, s: &[u8], at: usize, table: &[u8]) -> usize
     ensures { result ≡ place_of (cased (case_of xcal) (rest mode s.now at)) (names_in table.now) }
 {
-    let k = case_of(xcal);
-    find_cased(k, mode, s, at, table)
+    find_cased(case_of(xcal), mode, s, at, table)
 }
 
 // The word, in the case `k`, is `w`.
@@ -154,16 +126,13 @@ fn is_cased(k: Case, mode: usize, s: &[u8], at: usize, w: &[u8]) -> bool
     let mut i = 0;
     while i < w.len() {
         let n = unit(mode, s, c);
-        let v = cased_unit(k, n.u);
-        let t = wide(w[i]);
-        if v == t {
-            c = n.next;
-            i += 1;
-        } else {
+        if cased_unit(k, n.u) != wide(w[i]) {
             return false;
         }
+        c = n.next;
+        i += 1;
     }
-    is_end(mode, s, c, true)
+    unit(mode, s, c).u == END
 }
 
 // The word is `w` as it stands.
@@ -191,11 +160,10 @@ fn put_cased(out: &mut [u8], o: usize, k: Case, mode: usize, s: &[u8], at: usize
     let mut c = at;
     loop {
         let n = unit(mode, s, c);
-        let u = n.u;
-        if u == END {
+        if n.u == END {
             return p;
         }
-        let v = cased_unit(k, u);
+        let v = cased_unit(k, n.u);
         p = put(out, p, v as u8);
         c = n.next;
     }
@@ -229,11 +197,9 @@ pub fn name_end(mode: usize, s: &[u8], at: usize) -> usize
     let mut c = at;
     loop {
         let n = unit(mode, s, c);
-        let part = is_name_char(n.u);
-        if part {
-            c = n.next;
-        } else {
+        if !is_name_char(n.u) {
             return c;
         }
+        c = n.next;
     }
 }

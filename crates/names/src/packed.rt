@@ -19,11 +19,11 @@ const EIGHTH: u64 = 0x2_0000_0000_0000;
 // From here on the high half takes no more digits.
 const FULL: u64 = 0x100_0000_0000_0000;
 
-// The high half of what is no name's number.
+// The high half of what is no name's number. It is a number, and no `None`, so that a caller compares it with those of names at once.
 const NONE: u64 = 0x8000_0000_0000_0000;
 
 // The number of a name in two halves; the low one has the last eight digits.
-#[derive(Clone, Copy)]
+#[derive(Clone, Copy, Debug, PartialEq, Eq)]
 pub struct Packed {
     pub high: u64,
     pub low: u64,
@@ -33,14 +33,11 @@ pub struct Packed {
 fn grown(high: u64, low: u64, v: usize) -> Packed
     ensures { (result.high ≡ grow_high high low v) × (result.low ≡ grow_low high low v) }
 {
-    if v < DIGITS {
-        if high < FULL {
-            return Packed {
-                high: high * BASE + low / EIGHTH,
-                low: low % EIGHTH * BASE + v as u64,
-            };
-        }
-        return Packed { high: NONE, low: 0 };
+    if v < DIGITS && high < FULL {
+        return Packed {
+            high: high * BASE + low / EIGHTH,
+            low: low % EIGHTH * BASE + v as u64,
+        };
     }
     Packed { high: NONE, low: 0 }
 }
@@ -53,9 +50,7 @@ fn pack_plain(s: &[u8], at: usize) -> Packed
     let mut low = 1;
     let mut c = at;
     while c < s.len() {
-        let u = wide(s[c]);
-        let v = upper_unit(u);
-        let t = grown(high, low, v);
+        let t = grown(high, low, upper_unit(wide(s[c])));
         high = t.high;
         low = t.low;
         c += 1;
@@ -75,12 +70,10 @@ pub fn pack(mode: usize, s: &[u8], at: usize) -> Packed
     let mut c = at;
     loop {
         let n = unit(mode, s, c);
-        let u = n.u;
-        if u == END {
+        if n.u == END {
             return Packed { high, low };
         }
-        let v = upper_unit(u);
-        let t = grown(high, low, v);
+        let t = grown(high, low, upper_unit(n.u));
         high = t.high;
         low = t.low;
         c = n.next;

@@ -17,13 +17,10 @@ pub fn name_end_plain(s: &[u8], at: usize) -> usize
 {
     let mut c = at;
     while c < s.len() {
-        let u = wide(s[c]);
-        let part = is_name_char(u);
-        if part {
-            c += 1;
-        } else {
+        if !is_name_char(wide(s[c])) {
             return c;
         }
+        c += 1;
     }
     c
 }
@@ -35,19 +32,11 @@ pub fn is_cased_plain(k: Case, s: &[u8], at: usize, w: &[u8]) -> bool
     let mut c = at;
     let mut i = 0;
     while i < w.len() {
-        if c < s.len() {
-            let u = wide(s[c]);
-            let v = cased_unit(k, u);
-            let t = wide(w[i]);
-            if v == t {
-                c += 1;
-                i += 1;
-            } else {
-                return false;
-            }
-        } else {
+        if s.len() <= c || cased_unit(k, wide(s[c])) != wide(w[i]) {
             return false;
         }
+        c += 1;
+        i += 1;
     }
     s.len() <= c
 }
@@ -59,8 +48,7 @@ pub fn put_plain(out: &mut [u8], o: usize, k: Case, s: &[u8], at: usize) -> usiz
     let mut p = o;
     let mut c = at;
     while c < s.len() {
-        let u = wide(s[c]);
-        let v = cased_unit(k, u);
+        let v = cased_unit(k, wide(s[c]));
         p = put(out, p, v as u8);
         c += 1;
     }

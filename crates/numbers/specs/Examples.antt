@@ -1,6 +1,5 @@
 -- Examples that compute.
-use Rattle.std.specs.Prelude.{◌≡◌, refl, Bool, true, false, List, [], ◌∷◌, map, ℕ}
-use Rattle.std.proofs.Math.Option.{Option, none, some}
+use Rattle.std.specs.Prelude.{◌≡◌, refl, Bool, true, false, List, [], ◌∷◌, map, ℕ, Option, None, Some}
 use Rattle.octets.specs.Ascii.{ascii}
 use Rattle.octets.specs.Reading.{and_then}
 use Rattle.calendar.specs.Calendar.{ical, xcal, Whole, geo}
@@ -15,23 +14,23 @@ w m n = record { negative = m; magnitude = n }
 
 -- a text read and written again
 abbrev integer_again : List ℕ → Option (List ℕ)
-integer_again s = and_then (read_integer s) (λ v. some (write_integer v))
+integer_again s = and_then (read_integer s) (λ v. Some (write_integer v))
 
 abbrev float_again : List ℕ → Option (List ℕ)
-float_again s = and_then (read_float s) (λ v. some (write_float v))
+float_again s = and_then (read_float s) (λ v. Some (write_float v))
 
 integers : map read_integer (ascii "2147483647" ∷ ascii "2147483648" ∷ ascii "-2147483648" ∷ ascii "-2147483649" ∷ ascii "+007" ∷ ascii "-0" ∷ ascii "-012" ∷ [])
-    ≡ (some (w false 2147483647) ∷ none ∷ some (w true 2147483648) ∷ none ∷ some (w false 7) ∷ some (w false 0) ∷ some (w true 12) ∷ [])
+    ≡ (Some (w false 2147483647) ∷ None ∷ Some (w true 2147483648) ∷ None ∷ Some (w false 7) ∷ Some (w false 0) ∷ Some (w true 12) ∷ [])
 unfolding numbers_compute
 integers = refl
 
 integers_refused : map read_integer (ascii "" ∷ ascii "+" ∷ ascii "-" ∷ ascii "--1" ∷ ascii "+-1" ∷ ascii "1.0" ∷ ascii " 1" ∷ ascii "1e3" ∷ ascii "99999999999999999999999999" ∷ [])
-    ≡ (none ∷ none ∷ none ∷ none ∷ none ∷ none ∷ none ∷ none ∷ none ∷ [])
+    ≡ (None ∷ None ∷ None ∷ None ∷ None ∷ None ∷ None ∷ None ∷ None ∷ [])
 unfolding numbers_compute
 integers_refused = refl
 
 integers_written : map integer_again (ascii "+007" ∷ ascii "-0" ∷ ascii "0000000000000000000000002147483647" ∷ ascii "-0002147483648" ∷ [])
-    ≡ (some (ascii "7") ∷ some (ascii "0") ∷ some (ascii "2147483647") ∷ some (ascii "-2147483648") ∷ [])
+    ≡ (Some (ascii "7") ∷ Some (ascii "0") ∷ Some (ascii "2147483647") ∷ Some (ascii "-2147483648") ∷ [])
 unfolding numbers_compute
 integers_written = refl
 
@@ -40,19 +39,19 @@ unfolding numbers_compute
 integers_kept = refl
 
 floats : map read_float (ascii "-037.50" ∷ ascii "0.5" ∷ ascii "+10" ∷ ascii "-0.00" ∷ ascii "-0.05" ∷ [])
-    ≡ (some (decimal true (ascii "37") (ascii "5")) ∷ some (decimal false [] (ascii "5")) ∷ some (decimal false (ascii "10") [])
-    ∷ some (decimal false [] []) ∷ some (decimal true [] (ascii "05")) ∷ [])
+    ≡ (Some (decimal true (ascii "37") (ascii "5")) ∷ Some (decimal false [] (ascii "5")) ∷ Some (decimal false (ascii "10") [])
+    ∷ Some (decimal false [] []) ∷ Some (decimal true [] (ascii "05")) ∷ [])
 unfolding numbers_compute
 floats = refl
 
 floats_refused : map read_float (ascii "" ∷ ascii ".5" ∷ ascii "5." ∷ ascii "." ∷ ascii "-.5" ∷ ascii "1.2.3" ∷ ascii "1e5" ∷ ascii "1,5" ∷ ascii "+" ∷ ascii "1.-5" ∷ [])
-    ≡ (none ∷ none ∷ none ∷ none ∷ none ∷ none ∷ none ∷ none ∷ none ∷ none ∷ [])
+    ≡ (None ∷ None ∷ None ∷ None ∷ None ∷ None ∷ None ∷ None ∷ None ∷ None ∷ [])
 unfolding numbers_compute
 floats_refused = refl
 
 floats_written : map float_again (ascii "-037.50" ∷ ascii "0.5" ∷ ascii "000" ∷ ascii "-0" ∷ ascii "100.00" ∷ ascii "-1.10" ∷ ascii "12345678901234567890.123456789012345678900" ∷ [])
-    ≡ (some (ascii "-37.5") ∷ some (ascii "0.5") ∷ some (ascii "0") ∷ some (ascii "0") ∷ some (ascii "100") ∷ some (ascii "-1.1")
-    ∷ some (ascii "12345678901234567890.1234567890123456789") ∷ [])
+    ≡ (Some (ascii "-37.5") ∷ Some (ascii "0.5") ∷ Some (ascii "0") ∷ Some (ascii "0") ∷ Some (ascii "100") ∷ Some (ascii "-1.1")
+    ∷ Some (ascii "12345678901234567890.1234567890123456789") ∷ [])
 unfolding numbers_compute
 floats_written = refl
 
@@ -62,12 +61,12 @@ unfolding numbers_compute
 floats_kept = refl
 
 booleans : map (read_boolean ical) (ascii "TRUE" ∷ ascii "false" ∷ ascii "tRuE" ∷ ascii "1" ∷ ascii "" ∷ ascii "TRUE " ∷ [])
-    ≡ (some true ∷ some false ∷ some true ∷ none ∷ none ∷ none ∷ [])
+    ≡ (Some true ∷ Some false ∷ Some true ∷ None ∷ None ∷ None ∷ [])
 unfolding numbers_compute
 booleans = refl
 
 booleans_xml : map (read_boolean xcal) (ascii "true" ∷ ascii "false" ∷ ascii "1" ∷ ascii "0" ∷ ascii "TRUE" ∷ ascii "01" ∷ [])
-    ≡ (some true ∷ some false ∷ some true ∷ some false ∷ none ∷ none ∷ [])
+    ≡ (Some true ∷ Some false ∷ Some true ∷ Some false ∷ None ∷ None ∷ [])
 unfolding numbers_compute
 booleans_xml = refl
 
@@ -80,8 +79,8 @@ unfolding numbers_compute
 booleans_written_xml = refl
 
 geos : map read_geo (ascii "37.386013;-122.082932" ∷ ascii "+1.0;-0" ∷ ascii "1" ∷ ascii "1;2;3" ∷ ascii "1;" ∷ ascii ";1" ∷ ascii "1;.5" ∷ [])
-    ≡ (some (geo (decimal false (ascii "37") (ascii "386013")) (decimal true (ascii "122") (ascii "082932")))
-    ∷ some (geo (decimal false (ascii "1") []) (decimal false [] [])) ∷ none ∷ none ∷ none ∷ none ∷ none ∷ [])
+    ≡ (Some (geo (decimal false (ascii "37") (ascii "386013")) (decimal true (ascii "122") (ascii "082932")))
+    ∷ Some (geo (decimal false (ascii "1") []) (decimal false [] [])) ∷ None ∷ None ∷ None ∷ None ∷ None ∷ [])
 unfolding numbers_compute
 geos = refl
 

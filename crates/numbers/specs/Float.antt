@@ -3,8 +3,7 @@
 --     normal d       the normal form: no zeros that lead before the point or trail after it, and zero is not negative
 --     read_float, write_float
 --     is_normal      what a FLOAT is kept as
-use Rattle.std.specs.Prelude.{Bool, false, not, List, [], ◌∷◌, ℕ, eqb}
-use Rattle.std.proofs.Math.Option.{Option, none, some}
+use Rattle.std.specs.Prelude.{Bool, false, not, List, [], ◌∷◌, ℕ, eqb, Option, None, Some}
 use Rattle.octets.specs.Pick.{pick, ◌and◌}
 use Rattle.octets.specs.Scan.{all_of}
 use Rattle.octets.specs.Append.{◌⊕◌}
@@ -19,13 +18,13 @@ decimal m b a = record { minus = m; before = b; after = a }
 
 -- ["." 1*DIGIT]: the digits after the point, from the pieces that follow the first point (46 is .)
 unfoldable pub fraction : List (List ℕ) → Option (List ℕ)
-fraction [] = some []
+fraction [] = Some []
 fraction (a ∷ ps) = provided (is_digits a and is_empty ps) a
 
 -- 1*DIGIT ["." 1*DIGIT], from the pieces between points
 unfoldable pub pointed : Bool → List (List ℕ) → Option Decimal
-pointed m [] = none
-pointed m (b ∷ ps) = pick (is_digits b) (and_then (fraction ps) (λ a. some (decimal m b a))) none
+pointed m [] = None
+pointed m (b ∷ ps) = pick (is_digits b) (and_then (fraction ps) (λ a. Some (decimal m b a))) None
 
 abbrev pub spelled : List ℕ → Option Decimal
 spelled s = pointed (has_minus s) (cut_at 46 (after_sign s))
@@ -49,7 +48,7 @@ abbrev pub normal : Decimal → Decimal
 normal d = decimal (not (is_empty (no_leading d.before) and is_empty (no_trailing d.after)) and d.minus) (no_leading d.before) (no_trailing d.after)
 
 abbrev pub read_float : List ℕ → Option Decimal
-read_float s = and_then (spelled s) (λ d. some (normal d))
+read_float s = and_then (spelled s) (λ d. Some (normal d))
 
 -- ---- writing: 37.5, 0.5, 0
 

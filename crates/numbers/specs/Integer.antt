@@ -2,8 +2,7 @@
 --     integer_of m n  the number of magnitude n, negative if m says so and it is not zero
 --     write_whole     a minus if it is negative, and its digits; for magnitudes below 10 ^ 10
 --     read_integer, write_integer, is_integer
-use Rattle.std.specs.Prelude.{Bool, true, false, List, ℕ, ltb, leb}
-use Rattle.std.proofs.Math.Option.{Option}
+use Rattle.std.specs.Prelude.{Bool, true, false, List, ℕ, ltb, leb, Option}
 use Rattle.octets.specs.Pick.{pick, ◌and◌, within}
 use Rattle.octets.specs.Decimal.{value, is_number, digits}
 use Rattle.octets.specs.Reading.{provided}

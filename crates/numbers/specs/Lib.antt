@@ -9,7 +9,6 @@
 --     ReadFloat   FLOAT as the code reads and writes it
 --     Worth       what digits are worth, with zeros in front of them and after them
 --     Boolean     BOOLEAN
---     ReadBoolean BOOLEAN as the code reads it
 --     Geo         GEO, two FLOAT values
 --     ReadGeo     GEO as the code reads it
 --     Computing   opens all of these, for examples that compute
@@ -25,7 +24,6 @@ pub mod Until
 pub mod FloatParts
 pub mod ReadFloat
 pub mod Boolean
-pub mod ReadBoolean
 pub mod Geo
 pub mod ReadGeo
 pub mod Computing

@@ -1,13 +1,14 @@
 -- Digits as the code reads them through the cursor, to the end or to the first letter.
 --     front letters s         what stands before the first letter, or all of s
 --     Fronts                  the contract of a step over `front`: r is its byte at a cursor, and the cursor after it
---     worth_to most n s       what the digits of s are worth after digits that are worth n, if there are no others and it is no more than most; else 2 ^ 32 - 1
-use Rattle.std.specs.Prelude.{◌≡◌, Bool, true, false, List, ℕ, ◌+◌, ◌*◌, ◌/◌, ◌^◌, ◌≤◌, ◌<◌, leb, length}
-use Rattle.octets.specs.Pick.{pick, ◌and◌}
+--     worth_to most n s       what the digits of s are worth after digits that are worth n, if there are no others and it is no more than most
+use Rattle.std.specs.Prelude.{◌≡◌, Bool, true, false, List, ℕ, ◌+◌, ◌*◌, ◌/◌, ◌^◌, ◌≤◌, ◌<◌, leb, length, Option}
+use Rattle.octets.specs.Pick.{◌and◌}
 use Rattle.octets.specs.Scan.{all_of}
 use Rattle.octets.specs.Class.{is_digit, is_alpha}
 use Rattle.octets.specs.Front.{up_to}
 use Rattle.octets.specs.Decimal.{value}
+use Rattle.octets.specs.Reading.{provided}
 use Rattle.source.specs.Source.{rest, spell}
 use Rattle.source.specs.declared.Step.{Step}
 
@@ -21,5 +22,5 @@ pub record Fronts (l : Bool) (m : ℕ) (s : List ℕ) (c : ℕ) (r : Step) : Typ
   pub moved : c < r.next + r.u / 256 * 2 ^ 64
   pub inside : r.next ≤ 4 * length s + r.u / 256 * 2 ^ 64
 
-unfoldable pub worth_to : ℕ → ℕ → List ℕ → ℕ
-worth_to m n s = pick (all_of is_digit s and leb (value n s) m) (value n s) 4294967295
+unfoldable pub worth_to : ℕ → ℕ → List ℕ → Option ℕ
+worth_to m n s = provided (all_of is_digit s and leb (value n s) m) (value n s)

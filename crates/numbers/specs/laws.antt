@@ -2,7 +2,6 @@
 --     Sign         a sign in front of digits
 --     Integer      INTEGER
 --     Cursor       a byte that is known was found at the cursor
---     Digit        a byte that was compared is a digit, or none
 --     Numeral      digits as the code reads them one by one
 --     ReadInteger  INTEGER as the code reads and writes it
 --     PutInteger   a number written digit by digit
@@ -21,7 +20,6 @@
 pub mod Sign
 pub mod Integer
 pub mod Cursor
-pub mod Digit
 pub mod Numeral
 pub mod ReadInteger
 pub mod PutInteger

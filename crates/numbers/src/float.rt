@@ -1,5 +1,5 @@
 // FLOAT: read from the cursor up to the byte `stop`, to the end where it is END; and written.
-ghost use Rattle.std.specs.Prelude.{◌≡◌, not, [], ◌∷◌};
+ghost use Rattle.std.specs.Prelude.{◌≡◌, [], ◌∷◌, option_map};
 ghost use Rattle.octets.specs.Pick.{◌and◌};
 ghost use Rattle.octets.specs.Append.{◌⊕◌};
 ghost use Rattle.octets.specs.Words.{is_empty};
@@ -7,93 +7,67 @@ ghost use Rattle.octets.specs.Reading.{or_nothing};
 ghost use Rattle.source.specs.Source.{rest};
 ghost use Rattle.sink.specs.Sink.{Put};
 ghost use Rattle.numbers.specs.Worth.{zeros};
-ghost use Rattle.numbers.specs.Float.{decimal, no_trailing, or_zero, after_point, read_float, write_float};
+ghost use Rattle.numbers.specs.Float.{no_trailing, or_zero, after_point, read_float, write_float};
 ghost use Rattle.numbers.specs.Until.{until};
 ghost use Rattle.numbers.specs.FloatParts.{front};
 ghost use Rattle.numbers.specs.ReadFloat.{Shaped, float_of};
 
 use crate::scan::{digits_end, has_minus, only_digits, only_zeros, sign_end, unit_to, zeros_end};
 use octets::is_digit;
-use octets::unit::{END, NINE, POINT, ZERO};
+use octets::unit::{END, POINT, ZERO};
 use sink::put;
 
-// A number: whether it is negative, the cursor of the first digit that counts, and the cursor of the digits after the point.
-#[derive(Clone, Copy)]
-pub enum FloatRead {
-    Good(bool, usize, usize),
-    Bad,
+// Zero is not negative. `whole` is the cursor of the first digit that counts, `fraction` that of the digits after the point.
+#[derive(Clone, Copy, Debug, PartialEq, Eq)]
+pub struct Float {
+    pub negative: bool,
+    pub whole: usize,
+    pub fraction: usize,
 }
 
-// Digits, and digits after a point if there is one: whether they stand there, and the cursor of those after the point.
-#[derive(Clone, Copy)]
-struct Shape {
-    ok: bool,
-    after: usize,
-}
-
-fn read_shape(stop: usize, mode: usize, s: &[u8], at: usize) -> Shape
+// Digits, and digits after a point if there is one: the cursor of those after the point.
+fn read_shape(stop: usize, mode: usize, s: &[u8], at: usize) -> Option<usize>
     ensures { Shaped stop mode s.now at result }
 {
-    let t = unit_to(stop, mode, s, at);
-    if is_digit(t.u) {
-        let p = digits_end(stop, mode, s, at);
-        let w = unit_to(stop, mode, s, p);
-        let u = w.u;
-        if u == END {
-            return Shape { ok: true, after: p };
-        }
-        if u == POINT {
-            let a = w.next;
-            let d = only_digits(stop, mode, s, a);
-            return Shape { ok: d, after: a };
-        }
-        return Shape {
-            ok: false,
-            after: at,
-        };
+    if !is_digit(unit_to(stop, mode, s, at).u) {
+        return None;
     }
-    Shape {
-        ok: false,
-        after: at,
+    let end = digits_end(stop, mode, s, at);
+    let next = unit_to(stop, mode, s, end);
+    if next.u == END {
+        return Some(end);
     }
+    if next.u != POINT {
+        return None;
+    }
+    only_digits(stop, mode, s, next.next).then_some(next.next)
 }
 
-// Whether the minus counts: it does not where the number is zero.
-fn is_minus(neg: bool, stop: usize, mode: usize, s: &[u8], first: usize, after: usize) -> bool
+// Whether no digit counts.
+fn is_zero(stop: usize, mode: usize, s: &[u8], whole: usize, fraction: usize) -> bool
     ensures { result
-        ≡ (not (is_empty (front (until stop mode s.now first))
-        and is_empty (no_trailing (until stop mode s.now after)))
-        and neg) }
+        ≡ (is_empty (front (until stop mode s.now whole))
+        and is_empty (no_trailing (until stop mode s.now fraction))) }
 {
-    let t = unit_to(stop, mode, s, first);
-    let d = is_digit(t.u);
-    if d {
-        return neg;
-    }
-    let z = only_zeros(stop, mode, s, after);
-    if z {
-        return false;
-    }
-    neg
+    !is_digit(unit_to(stop, mode, s, whole).u) && only_zeros(stop, mode, s, fraction)
 }
 
-pub fn float_to(stop: usize, mode: usize, s: &[u8], at: usize) -> FloatRead
-    ensures { read_float (until stop mode s.now at) ≡ float_of stop mode s.now result }
+pub fn float_to(stop: usize, mode: usize, s: &[u8], at: usize) -> Option<Float>
+    ensures { read_float (until stop mode s.now at) ≡ option_map (float_of stop mode s.now) result }
 {
-    let neg = has_minus(stop, mode, s, at);
-    let a = sign_end(stop, mode, s, at);
-    let h = read_shape(stop, mode, s, a);
-    if h.ok {
-        let f = h.after;
-        let first = zeros_end(stop, mode, s, a);
-        let minus = is_minus(neg, stop, mode, s, first, f);
-        return FloatRead::Good(minus, first, f);
-    }
-    FloatRead::Bad
+    let first = sign_end(stop, mode, s, at);
+    let fraction = read_shape(stop, mode, s, first)?;
+    let whole = zeros_end(stop, mode, s, first);
+    let negative = !is_zero(stop, mode, s, whole, fraction) && has_minus(stop, mode, s, at);
+    Some(Float {
+        negative,
+        whole,
+        fraction,
+    })
 }
 
-pub fn read_float(mode: usize, s: &[u8], at: usize) -> FloatRead
-    ensures { read_float (rest mode s.now at) ≡ float_of 256 mode s.now result }
+pub fn read_float(mode: usize, s: &[u8], at: usize) -> Option<Float>
+    ensures { read_float (rest mode s.now at) ≡ option_map (float_of 256 mode s.now) result }
 {
     float_to(END, mode, s, at)
 }
@@ -108,17 +82,10 @@ fn put_front(out: &mut [u8], o: usize, stop: usize, mode: usize, s: &[u8], at: u
     let mut c = at;
     loop {
         let t = unit_to(stop, mode, s, c);
-        let u = t.u;
-        if u == END {
+        if !is_digit(t.u) {
             return q;
         }
-        if u < ZERO {
-            return q;
-        }
-        if NINE < u {
-            return q;
-        }
-        q = put(out, q, u as u8);
+        q = put(out, q, t.u as u8);
         c = t.next;
     }
 }
@@ -127,9 +94,7 @@ fn put_front(out: &mut [u8], o: usize, stop: usize, mode: usize, s: &[u8], at: u
 fn put_before(out: &mut [u8], o: usize, stop: usize, mode: usize, s: &[u8], at: usize) -> usize
     ensures { Put out.old out.new o result (or_zero (front (until stop mode s.now at))) }
 {
-    let t = unit_to(stop, mode, s, at);
-    let d = is_digit(t.u);
-    if d {
+    if is_digit(unit_to(stop, mode, s, at).u) {
         return put_front(out, o, stop, mode, s, at);
     }
     put(out, o, b'0')
@@ -139,10 +104,8 @@ fn put_zeros(out: &mut [u8], o: usize, k: usize) -> usize
     ensures { Put out.old out.new o result (zeros k) }
 {
     let mut q = o;
-    let mut n = k;
-    while 0 < n {
+    for _i in 0..k {
         q = put(out, q, b'0');
-        n -= 1;
     }
     q
 }
@@ -156,15 +119,14 @@ fn put_trimmed(out: &mut [u8], o: usize, stop: usize, mode: usize, s: &[u8], at:
     let mut c = at;
     loop {
         let t = unit_to(stop, mode, s, c);
-        let u = t.u;
-        if u == END {
+        if t.u == END {
             return q;
         }
-        if u == ZERO {
+        if t.u == ZERO {
             k += 1;
             c = t.next;
         } else {
-            q = put_waiting(out, q, k, u as u8);
+            q = put_waiting(out, q, k, t.u as u8);
             k = 0;
             c = t.next;
         }
@@ -183,8 +145,7 @@ fn put_waiting(out: &mut [u8], o: usize, k: usize, b: u8) -> usize
 fn put_after(out: &mut [u8], o: usize, stop: usize, mode: usize, s: &[u8], at: usize) -> usize
     ensures { Put out.old out.new o result (after_point (no_trailing (until stop mode s.now at))) }
 {
-    let z = only_zeros(stop, mode, s, at);
-    if z {
+    if only_zeros(stop, mode, s, at) {
         return o;
     }
     let q = put(out, o, b'.');
@@ -207,25 +168,14 @@ fn put_magnitude(
     put_after(out, q, stop, mode, s, after)
 }
 
-fn put_decimal(
-    out: &mut [u8],
-    o: usize,
-    minus: bool,
-    stop: usize,
-    mode: usize,
-    s: &[u8],
-    first: usize,
-    after: usize,
-) -> usize
-    ensures { Put out.old out.new o result (write_float (decimal minus
-        (front (until stop mode s.now first))
-        (no_trailing (until stop mode s.now after)))) }
+fn put_decimal(out: &mut [u8], o: usize, n: Float, stop: usize, mode: usize, s: &[u8]) -> usize
+    ensures { Put out.old out.new o result (write_float (float_of stop mode s.now n)) }
 {
-    if minus {
+    if n.negative {
         let q = put(out, o, b'-');
-        return put_magnitude(out, q, stop, mode, s, first, after);
+        return put_magnitude(out, q, stop, mode, s, n.whole, n.fraction);
     }
-    put_magnitude(out, o, stop, mode, s, first, after)
+    put_magnitude(out, o, stop, mode, s, n.whole, n.fraction)
 }
 
 pub fn put_float_to(
@@ -239,10 +189,10 @@ pub fn put_float_to(
     ensures { Put out.old out.new o result
         (or_nothing write_float (read_float (until stop mode s.now at))) }
 {
-    let FloatRead::Good(minus, first, after) = float_to(stop, mode, s, at) else {
+    let Some(n) = float_to(stop, mode, s, at) else {
         return o;
     };
-    put_decimal(out, o, minus, stop, mode, s, first, after)
+    put_decimal(out, o, n, stop, mode, s)
 }
 
 pub fn put_float(out: &mut [u8], o: usize, mode: usize, s: &[u8], at: usize) -> usize

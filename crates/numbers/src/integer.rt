@@ -1,64 +1,52 @@
 // INTEGER: read from the cursor to the end, and written.
-ghost use Rattle.std.specs.Prelude.{◌≡◌, List, ◌+◌, ◌<◌, ◌≤◌};
+ghost use Rattle.std.specs.Prelude.{◌≡◌, List, ◌+◌, ◌<◌, ◌≤◌, option_map};
 ghost use Rattle.octets.specs.Decimal.{digits};
 ghost use Rattle.octets.specs.Reading.{or_nothing};
 ghost use Rattle.source.specs.Source.{rest};
 ghost use Rattle.sink.specs.Sink.{Put};
 ghost use Rattle.numbers.specs.Integer.{integer_of, write_whole, read_integer, write_integer};
-ghost use Rattle.numbers.specs.ReadInteger.{number_in, whole_from, whole_of, whole_is};
+ghost use Rattle.numbers.specs.ReadInteger.{number_in, whole_of, whole_is};
 
 use crate::numeral::worth;
 use octets::unit::{END, HYPHEN, PLUS};
 use sink::put;
 use source::unit;
 
-// A number: whether it is negative, and its magnitude.
-#[derive(Clone, Copy)]
-pub enum IntegerRead {
-    Value(bool, u32),
-    Bad,
+// Zero is not negative.
+#[derive(Clone, Copy, Debug, PartialEq, Eq)]
+pub struct Integer {
+    pub negative: bool,
+    pub magnitude: u32,
 }
 
-// What the digits to the end are worth, where there must be one; 2 ^ 32 - 1 where one is no digit, or where they are worth more than `most`.
-fn number(mode: usize, s: &[u8], at: usize, most: usize) -> u32
+// What the digits to the end are worth, where there is one and no other byte, and it is no more than `most`.
+fn number(mode: usize, s: &[u8], at: usize, most: usize) -> Option<u32>
     requires { most ≤ 2147483648 }
     ensures { number_in most (rest mode s.now at) ≡ result }
 {
-    let t = unit(mode, s, at);
-    if t.u == END {
-        return 4294967295;
+    if unit(mode, s, at).u == END {
+        return None;
     }
     worth(false, most, mode, s, at)
 }
 
-// The number with its sign: zero has none.
-fn signed(neg: bool, n: u32) -> IntegerRead
-    ensures { whole_from neg n ≡ whole_of result }
+pub fn read_integer(mode: usize, s: &[u8], at: usize) -> Option<Integer>
+    ensures { read_integer (rest mode s.now at) ≡ option_map whole_of result }
 {
-    if n == 4294967295 {
-        return IntegerRead::Bad;
+    let sign = unit(mode, s, at);
+    if sign.u == HYPHEN {
+        let magnitude = number(mode, s, sign.next, 2147483648)?;
+        return Some(Integer {
+            negative: 0 < magnitude,
+            magnitude,
+        });
     }
-    if n == 0 {
-        return IntegerRead::Value(false, 0);
-    }
-    IntegerRead::Value(neg, n)
-}
-
-pub fn read_integer(mode: usize, s: &[u8], at: usize) -> IntegerRead
-    ensures { read_integer (rest mode s.now at) ≡ whole_of result }
-{
-    let t = unit(mode, s, at);
-    let u = t.u;
-    if u == HYPHEN {
-        let n = number(mode, s, t.next, 2147483648);
-        return signed(true, n);
-    }
-    if u == PLUS {
-        let n = number(mode, s, t.next, 2147483647);
-        return signed(false, n);
-    }
-    let n = number(mode, s, at, 2147483647);
-    signed(false, n)
+    let first = if sign.u == PLUS { sign.next } else { at };
+    let magnitude = number(mode, s, first, 2147483647)?;
+    Some(Integer {
+        negative: false,
+        magnitude,
+    })
 }
 
 fn digit(n: u64) -> u8
@@ -96,8 +84,8 @@ pub fn put_integer(out: &mut [u8], o: usize, mode: usize, s: &[u8], at: usize) -
     ensures { Put out.old out.new o result
         (or_nothing write_integer (read_integer (rest mode s.now at))) }
 {
-    let IntegerRead::Value(neg, m) = read_integer(mode, s, at) else {
+    let Some(n) = read_integer(mode, s, at) else {
         return o;
     };
-    put_whole(out, o, neg, m)
+    put_whole(out, o, n.negative, n.magnitude)
 }

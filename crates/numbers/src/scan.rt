@@ -15,12 +15,13 @@ pub fn unit_to(stop: usize, mode: usize, s: &[u8], at: usize) -> Step
     ensures { Turns stop mode s.now at result }
 {
     let t = unit(mode, s, at);
-    let u = t.u;
-    let n = t.next;
-    if u == stop {
-        return Step { u: END, next: n };
+    if t.u == stop {
+        return Step {
+            u: END,
+            next: t.next,
+        };
     }
-    Step { u: u, next: n }
+    t
 }
 
 // After the digits.
@@ -30,15 +31,10 @@ pub fn digits_end(stop: usize, mode: usize, s: &[u8], at: usize) -> usize
     let mut c = at;
     loop {
         let t = unit_to(stop, mode, s, c);
-        let u = t.u;
-        if u == END {
+        if !is_digit(t.u) {
             return c;
         }
-        if is_digit(u) {
-            c = t.next;
-        } else {
-            return c;
-        }
+        c = t.next;
     }
 }
 
@@ -49,15 +45,10 @@ pub fn zeros_end(stop: usize, mode: usize, s: &[u8], at: usize) -> usize
     let mut c = at;
     loop {
         let t = unit_to(stop, mode, s, c);
-        let u = t.u;
-        if u == END {
+        if t.u != ZERO {
             return c;
         }
-        if u == ZERO {
-            c = t.next;
-        } else {
-            return c;
-        }
+        c = t.next;
     }
 }
 
@@ -68,15 +59,13 @@ pub fn only_zeros(stop: usize, mode: usize, s: &[u8], at: usize) -> bool
     let mut c = at;
     loop {
         let t = unit_to(stop, mode, s, c);
-        let u = t.u;
-        if u == END {
+        if t.u == END {
             return true;
         }
-        if u == ZERO {
-            c = t.next;
-        } else {
+        if t.u != ZERO {
             return false;
         }
+        c = t.next;
     }
 }
 
@@ -84,20 +73,17 @@ pub fn only_zeros(stop: usize, mode: usize, s: &[u8], at: usize) -> bool
 pub fn only_digits(stop: usize, mode: usize, s: &[u8], at: usize) -> bool
     ensures { result ≡ is_digits (until stop mode s.now at) }
 {
-    let t = unit_to(stop, mode, s, at);
-    if t.u == END {
+    if unit_to(stop, mode, s, at).u == END {
         return false;
     }
-    let p = digits_end(stop, mode, s, at);
-    let w = unit_to(stop, mode, s, p);
-    w.u == END
+    let end = digits_end(stop, mode, s, at);
+    unit_to(stop, mode, s, end).u == END
 }
 
 pub fn has_minus(stop: usize, mode: usize, s: &[u8], at: usize) -> bool
     ensures { result ≡ has_minus (until stop mode s.now at) }
 {
-    let t = unit_to(stop, mode, s, at);
-    t.u == HYPHEN
+    unit_to(stop, mode, s, at).u == HYPHEN
 }
 
 // After the sign, if there is one.
@@ -105,11 +91,7 @@ pub fn sign_end(stop: usize, mode: usize, s: &[u8], at: usize) -> usize
     ensures { after_sign (until stop mode s.now at) ≡ until stop mode s.now result }
 {
     let t = unit_to(stop, mode, s, at);
-    let u = t.u;
-    if u == HYPHEN {
-        return t.next;
-    }
-    if u == PLUS {
+    if t.u == HYPHEN || t.u == PLUS {
         return t.next;
     }
     at

@@ -1,7 +1,7 @@
 -- Laws. Bytes and words, which every other crate speaks with.
 --     Pick     a choice by a test, tests joined, and the rules for branches
 --     Scan     loops over a list from its front
---     Block    the first byte of a class, found in blocks
+--     Find     the first byte of a class
 --     Append   one list after another, shut
 --     Class    classes of bytes, letter case
 --     Letters  laws of letter case
@@ -15,7 +15,7 @@
 --     Many     repetition: items read from the front until there is none
 pub mod Pick
 pub mod Scan
-pub mod Block
+pub mod Find
 pub mod Append
 pub mod Class
 pub mod Letters

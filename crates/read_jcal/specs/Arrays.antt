@@ -4,8 +4,7 @@
 --     ThreeAt      the contract of `first_three`: the first three elements, and the place behind them
 --     ThreeIn      they stand within the bytes
 --     name_found, object_found, type_found, array_found  the first three as the elements of a property or a component
-use Rattle.std.specs.Prelude.{◌≡◌, true, List, ℕ, ◌≤◌, ◌<◌, length}
-use Rattle.std.proofs.Math.Option.{Option, none, some}
+use Rattle.std.specs.Prelude.{◌≡◌, true, List, ℕ, ◌≤◌, ◌<◌, length, Option, None, Some}
 use Rattle.octets.specs.Pick.{pick}
 use Rattle.octets.specs.Reading.{and_then}
 use Rattle.calendar.specs.Calendar.{ValueType}
@@ -16,16 +15,16 @@ use Rattle.read_json.specs.Heads.{value_by, HeadAt, NextAt}
 use Rattle.read_json.specs.Kinds.{is_there, is_string}
 use Rattle.read_json.specs.declared.Head.{Head}
 use Rattle.read_json.specs.declared.HeadKind.{HeadKind}
-use Rattle.read_json.specs.declared.HeadKind.TheVariants.{None, String, Number, Literal, Array, Object}
+use Rattle.read_json.specs.declared.HeadKind.TheVariants.{Absent, String, Number, Literal, Array, Object}
 use Rattle.read_jcal.specs.declared.Three.{Three}
 
 abbrev pub found_by : HeadKind → List ℕ → ℕ → ℕ → Option Json
-found_by None s p n = none
-found_by String s p n = some (value_by String s p n)
-found_by Number s p n = some (value_by Number s p n)
-found_by Literal s p n = some (value_by Literal s p n)
-found_by Array s p n = some (value_by Array s p n)
-found_by Object s p n = some (value_by Object s p n)
+found_by Absent s p n = None
+found_by String s p n = Some (value_by String s p n)
+found_by Number s p n = Some (value_by Number s p n)
+found_by Literal s p n = Some (value_by Literal s p n)
+found_by Array s p n = Some (value_by Array s p n)
+found_by Object s p n = Some (value_by Object s p n)
 
 abbrev pub found : List ℕ → Head → Option Json
 found s h = found_by h.kind s h.place h.next

@@ -2,7 +2,7 @@
 --     Judging         what is found, as a verdict
 --     Arrays          the elements of an array
 --     Types           the type that an element names
---     Counting        the word of an ACTION
+--     Counting        the action that an ACTION names
 --     Properties      the array of a property, and the properties of a component
 --     Components      the array of a component, up to its subcomponents and behind them
 --     Subcomponents   a whole component, and several

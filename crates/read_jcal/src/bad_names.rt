@@ -20,15 +20,9 @@ fn is_bad_property(s: &[u8], place: usize) -> bool
     requires { place < length s.now }
     ensures { result ≡ is_bad_property (string_at s.now place) }
 {
-    let bad = is_bad_name(s, place);
-    if bad {
-        return true;
-    }
-    let begin = is_word(3, s, 2 * (place + 1), &element::BEGIN);
-    if begin {
-        return true;
-    }
-    is_word(3, s, 2 * (place + 1), &element::END)
+    is_bad_name(s, place)
+        || is_word(3, s, 2 * (place + 1), &element::BEGIN)
+        || is_word(3, s, 2 * (place + 1), &element::END)
 }
 
 // The element is such a name.
@@ -36,24 +30,14 @@ fn has_bad_property(s: &[u8], h: Head) -> bool
     requires { Inside s.now h }
     ensures { result ≡ passes is_bad_property (and_then (found s.now h) as_string) }
 {
-    let kind = h.kind;
-    let string = is_string(kind);
-    if string {
-        return is_bad_property(s, h.place);
-    }
-    false
+    is_string(h.kind) && is_bad_property(s, h.place)
 }
 
 // The element is an object with a member whose name no parameter has.
 fn has_bad_parameter(s: &[u8], h: Head) -> bool
     ensures { result ≡ any_one is_bad_parameter (read_or [] (and_then (found s.now h) as_object)) }
 {
-    let kind = h.kind;
-    let object = is_object(kind);
-    if object {
-        return names_bad(s, h.next);
-    }
-    false
+    is_object(h.kind) && names_bad(s, h.next)
 }
 
 // Of the elements of a property's array, the name or a parameter's name is such a name.
@@ -62,9 +46,5 @@ pub fn has_bad_names(s: &[u8], p: Three) -> bool
     ensures { result ≡ (passes is_bad_property (and_then (found s.now p.first) as_string)
         or any_one is_bad_parameter (read_or [] (and_then (found s.now p.second) as_object))) }
 {
-    let property = has_bad_property(s, p.first);
-    if property {
-        return true;
-    }
-    has_bad_parameter(s, p.second)
+    has_bad_property(s, p.first) || has_bad_parameter(s, p.second)
 }

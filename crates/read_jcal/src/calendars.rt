@@ -5,38 +5,30 @@ ghost use Rattle.validity.specs.ValidCalendar.{at_top};
 ghost use Rattle.json_text.specs.Tree.{value_of};
 ghost use Rattle.jcal.specs.Components.{components_verdict, is_stream, calendars_in};
 ghost use Rattle.read_json.specs.Heads.{value_of_head};
-ghost use Rattle.read_jcal.specs.Judging.{judged_as};
+ghost use Rattle.refusals.specs.Fault.{judged_as};
 
+use crate::Outer;
 use crate::subcomponents::{component_verdict, components_verdict};
-use crate::{Judged, Outer};
 use edition::Edition;
 use read_json::kinds::is_array;
 use read_json::{Head, element_at};
+use refusals::Fault;
 use schema::component;
 
 // An array that begins with an array.
 fn is_stream(s: &[u8], h: Head) -> bool
     ensures { result ≡ is_stream (value_of_head s.now h) }
 {
-    let kind = h.kind;
-    let array = is_array(kind);
-    if array {
-        let first = element_at(s, h.next);
-        let kind = first.kind;
-        return is_array(kind);
-    }
-    false
+    is_array(h.kind) && is_array(element_at(s, h.next).kind)
 }
 
 // The calendars of a text, whatever the bytes are.
-pub fn calendars_verdict(edition: Edition, s: &[u8]) -> Judged
+pub fn calendars_verdict(edition: Edition, s: &[u8]) -> Result<(), Fault>
     ensures { components_verdict edition (calendars_in (value_of s.now)) at_top levels false ≡ judged_as result }
 {
     let h = element_at(s, 0);
-    let stream = is_stream(s, h);
-    let outer = Outer::Stream;
-    if stream {
-        return components_verdict(edition, s, h.next, outer, component::LEVELS, false);
+    if is_stream(s, h) {
+        return components_verdict(edition, s, h.next, Outer::Stream, component::LEVELS, false);
     }
-    component_verdict(edition, s, h, outer, component::LEVELS, false)
+    component_verdict(edition, s, h, Outer::Stream, component::LEVELS, false)
 }

@@ -32,9 +32,7 @@ pub fn first_three(s: &[u8], inside: usize) -> Three
 pub fn has_elements(s: &[u8], from: usize) -> bool
     ensures { result ≡ not (is_empty (element_list (elements_at s.now from))) }
 {
-    let h = element_at(s, from);
-    let kind = h.kind;
-    is_there(kind)
+    is_there(element_at(s, from).kind)
 }
 
 // As many values as a property has: one, or several where it is listed.
@@ -42,30 +40,12 @@ pub fn is_amount(listed: bool, s: &[u8], from: usize) -> bool
     ensures { result ≡ is_amount listed (element_list (elements_at s.now from)) }
 {
     let h = element_at(s, from);
-    let kind = h.kind;
-    let there = is_there(kind);
-    if there {
-        if listed {
-            return true;
-        }
-        let next = element_next(s, h);
-        let more = has_elements(s, next);
-        if more {
-            return false;
-        }
-        return true;
-    }
-    false
+    is_there(h.kind) && (listed || !has_elements(s, element_next(s, h)))
 }
 
 // The place of an element; 0 where there is none.
 pub fn place_of(h: Head) -> usize
     ensures { result ≡ place_in h }
 {
-    let kind = h.kind;
-    let there = is_there(kind);
-    if there {
-        return h.place;
-    }
-    0
+    if is_there(h.kind) { h.place } else { 0 }
 }

@@ -2,6 +2,7 @@
 #![tactic(auto)]
 
 use read_json::Head;
+use schema::Action;
 use tallies::Kept;
 
 mod bad_names;
@@ -16,15 +17,8 @@ mod types;
 
 pub use calendars::calendars_verdict;
 
-// What is found: nothing wrong, or the number of a refusal and its place.
-#[derive(Clone, Copy)]
-pub enum Judged {
-    Fine,
-    Refused(u8, usize),
-}
-
 // The first three elements of an array, and the place from where on the others stand.
-#[derive(Clone, Copy)]
+#[derive(Clone, Copy, Debug, PartialEq, Eq)]
 pub struct Three {
     pub first: Head,
     pub second: Head,
@@ -32,58 +26,32 @@ pub struct Three {
     pub next: usize,
 }
 
-// A type of this number; or none.
-#[derive(Clone, Copy)]
-pub enum Named {
-    Type(usize),
-    Bad,
-}
-
-// A property without a fault: its number, and the number of its word where it is an ACTION; or the number of its fault.
-#[derive(Clone, Copy)]
-pub enum PropertyRead {
-    Good(usize, usize),
-    Faulty(u8),
-}
-
-// An element of an array of properties: a property without a fault, by the same numbers; or a refusal and its place.
-#[derive(Clone, Copy)]
-pub enum Entry {
-    Stands(usize, usize),
-    Off(u8, usize),
-}
-
-// The verdict on the properties of a component; where it is fine, what is kept of them.
-#[derive(Clone, Copy)]
-pub struct Listed {
-    pub judged: Judged,
-    pub kept: Kept,
+// A property without a fault: its number, and what its word names where it is an ACTION.
+#[derive(Clone, Copy, Debug, PartialEq, Eq)]
+pub struct Stated {
+    pub number: usize,
+    pub action: Option<Action>,
 }
 
 // What components stand in: the stream of calendars, or the component of a number.
-#[derive(Clone, Copy)]
+#[derive(Clone, Copy, Debug, PartialEq, Eq)]
 pub enum Outer {
     Stream,
     Component(usize),
 }
 
-// A component that may stand there: its number, and where the content begins of the arrays of its properties and of its subcomponents; or the number of its fault.
-#[derive(Clone, Copy)]
-pub enum Shape {
-    Whole(usize, usize, usize),
-    Faulty(u8),
+// A component that may stand there: its number, and where the content begins of the arrays of its properties and of its subcomponents.
+#[derive(Clone, Copy, Debug, PartialEq, Eq)]
+pub struct Shape {
+    pub component: usize,
+    pub properties: usize,
+    pub components: usize,
 }
 
-// The verdict on a component; or that its properties are fine: its number, and where the content of the array of its subcomponents begins.
-#[derive(Clone, Copy)]
-pub enum Part {
-    Ends(Judged),
-    Opens(usize, usize),
-}
-
-// A component up to its subcomponents, and what is kept of its properties.
+// A component whose properties are fine: its number, where the content of the array of its subcomponents begins, and what is kept of its properties.
 #[derive(Clone, Copy)]
 pub struct Begun {
-    pub part: Part,
+    pub component: usize,
+    pub components: usize,
     pub kept: Kept,
 }

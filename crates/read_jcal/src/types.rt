@@ -6,7 +6,6 @@ ghost use Rattle.read_json.specs.TreeAt.{string_at};
 ghost use Rattle.read_jcal.specs.Arrays.{Inside};
 ghost use Rattle.read_jcal.specs.Types.{TypeAt};
 
-use crate::Named;
 use markup::table;
 use names::find_word;
 use read_json::Head;
@@ -22,18 +21,17 @@ fn type_word(s: &[u8], place: usize) -> usize
 }
 
 // The type that an element names.
-pub fn type_of(s: &[u8], h: Head) -> Named
+pub fn type_of(s: &[u8], h: Head) -> Option<usize>
     requires { Inside s.now h }
     ensures { TypeAt s.now h result }
 {
-    let kind = h.kind;
-    let string = is_string(kind);
-    if string {
-        let t = type_word(s, h.place);
-        if t <= value_type::UNKNOWN {
-            return Named::Type(t);
-        }
-        return Named::Bad;
+    if !is_string(h.kind) {
+        return None;
     }
-    Named::Bad
+    let t = type_word(s, h.place);
+    if t <= value_type::UNKNOWN {
+        Some(t)
+    } else {
+        None
+    }
 }

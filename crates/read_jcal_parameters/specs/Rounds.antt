@@ -3,11 +3,12 @@
 --     Found s P n f e     the members from f up to e stand there
 --     Behind, Before      the name at p goes behind the last of the first i of them, before that of the number i
 --     Apart s P n p       the name at p is none of the first n
---     Absent s P n p      none of the names from p on is one of them
---     Passes s f e        so the names up to e are different from each other and from all others
+--     Absent s P n p      none of the names from p on is one of them;   AbsentIn: where that is found
+--     PassedTo s f e      so the names up to e are different from each other and from all others;   Passes: where that is found
 --     Twice s f           a name from f on comes again
--- Each of these but Found where a test holds.
-use Rattle.std.specs.Prelude.{◌≡◌, Bool, true, false, List, ℕ, ◌-◌, ◌≤◌, ◌<◌, length, get_or}
+-- Stands, Behind, Before, Apart and Twice where a test holds.
+use Rattle.std.specs.Prelude.{◌≡◌, Bool, true, false, List, ℕ, ◌-◌, ◌≤◌, ◌<◌, length, get_or, ⊤, Result, Ok, Err}
+use Prim.{Unit}
 use Rattle.octets.specs.Words.{same, is_one_of}
 use Rattle.octets.specs.Lists.{distinct}
 use Rattle.distinct.specs.Listed.{listed}
@@ -47,12 +48,20 @@ pub record Before (s P : List ℕ) (n i p : ℕ) (t : Bool) : Type 0 where
 pub record Apart (s P : List ℕ) (n p : ℕ) (t : Bool) : Type 0 where
   pub is : t ≡ true → (i : ℕ) → i < n → same (name_of s P i) (string_at s p) ≡ false
 
-pub record Absent (s P : List ℕ) (n at : ℕ) (t : Bool) : Type 0 where
-  pub is : t ≡ true → (i : ℕ) → i < n → is_one_of (name_of s P i) (names_at s at) ≡ false
+pub record Absent (s P : List ℕ) (n at : ℕ) : Type 0 where
+  pub is : (i : ℕ) → i < n → is_one_of (name_of s P i) (names_at s at) ≡ false
 
-pub record Passes (s : List ℕ) (from : ℕ) (t : Bool) (at : ℕ) : Type 0 where
-  pub is : t ≡ true → distinct (names_at s from) ≡ distinct (names_at s at)
-  pub inside : t ≡ true → from < at → at ≤ length s
+abbrev pub AbsentIn : List ℕ → List ℕ → ℕ → ℕ → Result ⊤ ℕ → Type 0
+AbsentIn s P n at (Ok u) = Absent s P n at
+AbsentIn s P n at (Err p) = Unit {0}
+
+pub record PassedTo (s : List ℕ) (from at : ℕ) : Type 0 where
+  pub is : distinct (names_at s from) ≡ distinct (names_at s at)
+  pub inside : from < at → at ≤ length s
+
+abbrev pub Passes : List ℕ → ℕ → Result ℕ ℕ → Type 0
+Passes s from (Ok at) = PassedTo s from at
+Passes s from (Err p) = Unit {0}
 
 pub record Twice (s : List ℕ) (from : ℕ) (t : Bool) : Type 0 where
   pub is : t ≡ true → distinct (names_at s from) ≡ false

@@ -4,8 +4,7 @@
 --     read_string      one value
 --     is_spelled       whether an edition can spell its characters
 --     good_values      all values: each read and spelled, and as many as the parameter takes
-use Rattle.std.specs.Prelude.{Bool, true, List, [], ℕ}
-use Rattle.std.proofs.Math.Option.{Option, none}
+use Rattle.std.specs.Prelude.{Bool, true, List, [], ℕ, Option, None}
 use Rattle.octets.specs.Pick.{◌and◌}
 use Rattle.octets.specs.Lists.{every}
 use Rattle.octets.specs.Reading.{and_then, is_read, read_or}
@@ -24,7 +23,7 @@ row_at q = parameter_at q
 
 -- where the parameter has no closed set of words
 abbrev pub read_typed : ParameterRow → List ℕ → Option Value
-read_typed r l = read_word_in none r.type l
+read_typed r l = read_word_in None r.type l
 
 -- ---- one value
 

@@ -18,19 +18,13 @@ fn is_again(s: &[u8], place: usize, from: usize) -> bool
 {
     let k = cursor_of(s, place);
     let mut c = from;
-    loop {
-        let m = member_at(s, c);
-        if m.there {
-            let j = cursor_of(s, m.name);
-            let o = compare(s, k, j);
-            if o == 0 {
-                return true;
-            }
-            c = m.next;
-        } else {
-            return false;
+    while let Some(m) = member_at(s, c) {
+        if compare(s, k, cursor_of(s, m.name)) == 0 {
+            return true;
         }
+        c = m.next;
     }
+    false
 }
 
 // No two members from `from` on have the same name: each is compared with all behind it.
@@ -38,18 +32,13 @@ fn are_all_apart(s: &[u8], from: usize) -> bool
     ensures { result ≡ distinct (names_at s.now from) }
 {
     let mut c = from;
-    loop {
-        let m = member_at(s, c);
-        if m.there {
-            let again = is_again(s, m.name, m.next);
-            if again {
-                return false;
-            }
-            c = m.next;
-        } else {
-            return true;
+    while let Some(m) = member_at(s, c) {
+        if is_again(s, m.name, m.next) {
+            return false;
         }
+        c = m.next;
     }
+    true
 }
 
 // The name of the member at the place `p`, from `from` on, comes again.
@@ -57,17 +46,13 @@ fn is_twice(s: &[u8], from: usize, p: usize) -> bool
     ensures { Twice s.now from result }
 {
     let mut c = from;
-    loop {
-        let m = member_at(s, c);
-        if m.there {
-            if m.name == p {
-                return is_again(s, m.name, m.next);
-            }
-            c = m.next;
-        } else {
-            return false;
+    while let Some(m) = member_at(s, c) {
+        if m.name == p {
+            return is_again(s, m.name, m.next);
         }
+        c = m.next;
     }
+    false
 }
 
 // No two members from `from` on have the same name, in rounds for which `places` is the room.
@@ -76,19 +61,19 @@ fn by_rounds(s: &[u8], from: usize, places: &mut [u16]) -> bool
 {
     let mut c = from;
     loop {
-        let r = pass(s, c, places);
-        if r.passed {
-            if c < r.place {
-                c = r.place;
-            } else {
+        match pass(s, c, places) {
+            Ok(end) => {
+                if end <= c {
+                    return are_all_apart(s, c);
+                }
+                c = end;
+            }
+            Err(place) => {
+                if is_twice(s, c, place) {
+                    return false;
+                }
                 return are_all_apart(s, c);
             }
-        } else {
-            let twice = is_twice(s, c, r.place);
-            if twice {
-                return false;
-            }
-            return are_all_apart(s, c);
         }
     }
 }
@@ -98,13 +83,11 @@ fn are_few(s: &[u8], from: usize) -> bool {
     let mut c = from;
     let mut k: usize = 0;
     while k < 17 {
-        let m = member_at(s, c);
-        if m.there {
-            c = m.next;
-            k += 1;
-        } else {
+        let Some(m) = member_at(s, c) else {
             return true;
-        }
+        };
+        c = m.next;
+        k += 1;
     }
     false
 }
@@ -113,8 +96,7 @@ fn are_few(s: &[u8], from: usize) -> bool {
 pub fn are_apart(s: &[u8], from: usize) -> bool
     ensures { result ≡ distinct (names_at s.now from) }
 {
-    let few = are_few(s, from);
-    if few {
+    if are_few(s, from) {
         return are_all_apart(s, from);
     }
     let mut places = [0u16; 2048];

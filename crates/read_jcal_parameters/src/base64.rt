@@ -17,13 +17,7 @@ fn is_first(s: &[u8], at: usize) -> bool
     ensures { result ≡ first_is (ascii "BASE64") (list_at s.now at) }
 {
     let h = element_at(s, at);
-    let kind = h.kind;
-    let string = is_string(kind);
-    if string {
-        let k = cursor_of(s, h.place);
-        return is_word(3, s, k, b"BASE64");
-    }
-    false
+    is_string(h.kind) && is_word(3, s, cursor_of(s, h.place), b"BASE64")
 }
 
 // The first of the values that stand from `at` on.
@@ -31,12 +25,11 @@ fn is_base64(s: &[u8], at: usize) -> bool
     ensures { result ≡ first_is (ascii "BASE64") (given_at s.now at) }
 {
     let h = element_at(s, at);
-    let kind = h.kind;
-    let array = is_array(kind);
-    if array {
-        return is_first(s, h.next);
+    if is_array(h.kind) {
+        is_first(s, h.next)
+    } else {
+        is_first(s, at)
     }
-    is_first(s, at)
 }
 
 // The parameter is ENCODING, and its value BASE64.
@@ -45,11 +38,7 @@ fn is_encoded(s: &[u8], place: usize, at: usize) -> bool
     ensures { result ≡ encoded_by (string_at s.now place) (given_at s.now at) }
 {
     let k = cursor_of(s, place);
-    let q = parameter_number(3, s, k);
-    if q == parameter::ENCODING {
-        return is_base64(s, at);
-    }
-    false
+    parameter_number(3, s, k) == parameter::ENCODING && is_base64(s, at)
 }
 
 // Such a parameter stands from `from` on.
@@ -57,16 +46,11 @@ pub fn has_encoding(s: &[u8], from: usize) -> bool
     ensures { result ≡ any_one is_encoded (parameters_at s.now from) }
 {
     let mut c = from;
-    loop {
-        let m = member_at(s, c);
-        if m.there {
-            let found = is_encoded(s, m.name, m.next);
-            if found {
-                return true;
-            }
-            c = m.next;
-        } else {
-            return false;
+    while let Some(m) = member_at(s, c) {
+        if is_encoded(s, m.name, m.next) {
+            return true;
         }
+        c = m.next;
     }
+    false
 }

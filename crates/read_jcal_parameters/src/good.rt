@@ -26,11 +26,7 @@ fn is_sound(edition: Edition, row: Row, t: usize, s: &[u8], place: usize, at: us
 {
     let k = cursor_of(s, place);
     let q = parameter_number(3, s, k);
-    let permitted = permits_parameter(row, t, q);
-    if permitted {
-        return are_good(edition, q, s, at);
-    }
-    false
+    permits_parameter(row, t, q) && are_good(edition, q, s, at)
 }
 
 // All parameters from `from` on.
@@ -38,44 +34,27 @@ fn are_sound(edition: Edition, row: Row, t: usize, s: &[u8], from: usize) -> boo
     ensures { result ≡ every (is_sound edition row t) (parameters_at s.now from) }
 {
     let mut c = from;
-    loop {
-        let m = member_at(s, c);
-        if m.there {
-            let sound = is_sound(edition, row, t, s, m.name, m.next);
-            if sound {
-                c = m.next;
-            } else {
-                return false;
-            }
-        } else {
-            return true;
+    while let Some(m) = member_at(s, c) {
+        if !is_sound(edition, row, t, s, m.name, m.next) {
+            return false;
         }
+        c = m.next;
     }
+    true
 }
 
 // A value of the type of the number `t` is there: with BINARY, ENCODING=BASE64.
 fn are_encoded(t: usize, s: &[u8], from: usize) -> bool
     ensures { result ≡ encoded_for t (parameters_at s.now from) }
 {
-    if t == value_type::BINARY {
-        return has_encoding(s, from);
-    }
-    true
+    t != value_type::BINARY || has_encoding(s, from)
 }
 
 // None is repeated, each is sound, and a value of type BINARY has its encoding.
 fn are_good_by(edition: Edition, row: Row, t: usize, s: &[u8], from: usize) -> bool
     ensures { result ≡ good_by edition row t (parameters_at s.now from) }
 {
-    let apart = are_apart(s, from);
-    if apart {
-        let sound = are_sound(edition, row, t, s, from);
-        if sound {
-            return are_encoded(t, s, from);
-        }
-        return false;
-    }
-    false
+    are_apart(s, from) && are_sound(edition, row, t, s, from) && are_encoded(t, s, from)
 }
 
 // The parameters from `from` on are good, of the property of the row with a value of the type of the number `t`.

@@ -26,16 +26,13 @@ fn is_small_name(s: &[u8], at: usize) -> bool
         if n.u == END {
             return true;
         }
-        let part = is_name_char(n.u);
-        if part {
-            let capital = is_capital(n.u);
-            if capital {
-                return false;
-            }
-            c = n.next;
-        } else {
+        if !is_name_char(n.u) {
             return false;
         }
+        if is_capital(n.u) {
+            return false;
+        }
+        c = n.next;
     }
 }
 
@@ -44,18 +41,7 @@ fn is_bad_from(s: &[u8], at: usize) -> bool
     ensures { result ≡ is_bad_name (rest 3 s.now at) }
 {
     let n = quoted_unit(s, at);
-    if n.u == END {
-        return true;
-    }
-    let small = is_small_name(s, at);
-    if small {
-        let carried = is_carried_name(3, s, at);
-        if carried {
-            return false;
-        }
-        return true;
-    }
-    true
+    n.u == END || !is_small_name(s, at) || !is_carried_name(3, s, at)
 }
 
 // The same of the string whose quotation mark stands at `place`.
@@ -73,11 +59,7 @@ fn is_bad_parameter(s: &[u8], place: usize) -> bool
     ensures { result ≡ is_bad_parameter_name (string_at s.now place) }
 {
     let c = cursor_of(s, place);
-    let bad = is_bad_from(s, c);
-    if bad {
-        return true;
-    }
-    is_word(3, s, c, b"value")
+    is_bad_from(s, c) || is_word(3, s, c, b"value")
 }
 
 // A parameter from `from` on has such a name.
@@ -85,16 +67,11 @@ pub fn names_bad(s: &[u8], from: usize) -> bool
     ensures { result ≡ any_one is_bad_parameter (member_list (members_at s.now from)) }
 {
     let mut c = from;
-    loop {
-        let m = member_at(s, c);
-        if m.there {
-            let bad = is_bad_parameter(s, m.name);
-            if bad {
-                return true;
-            }
-            c = m.next;
-        } else {
-            return false;
+    while let Some(m) = member_at(s, c) {
+        if is_bad_parameter(s, m.name) {
+            return true;
         }
+        c = m.next;
     }
+    false
 }

@@ -3,20 +3,13 @@
 ghost use Rattle.std.specs.Prelude.{◌-◌, ◌^◌, ◌≤◌, ◌<◌};
 ghost use Rattle.distinct.specs.Rising.{Rising};
 ghost use Rattle.read_json.specs.TreeAt.{string_at};
-ghost use Rattle.read_jcal_parameters.specs.Rounds.{Stands, Found, Behind, Before, Apart, Absent, Passes};
+ghost use Rattle.read_jcal_parameters.specs.Rounds.{Stands, Found, Behind, Before, Apart, AbsentIn, Passes};
 
 use crate::heap::sort;
 use crate::order::compare_places;
 use crate::places::{place_at, put_place};
 use octets::smaller;
 use read_json::member_at;
-
-// A round: whether its names are all different and none comes again, and the place behind them; else a place where one that comes again may stand.
-#[derive(Clone, Copy)]
-pub struct Round {
-    pub passed: bool,
-    pub place: usize,
-}
 
 const ROOM: usize = 2048;
 
@@ -27,14 +20,12 @@ fn collect(s: &[u8], from: usize, places: &mut [u16]) -> usize
     let mut c = from;
     let mut k = 0;
     while k < ROOM {
-        let m = member_at(s, c);
-        if m.there {
-            put_place(places, k, m.name);
-            k += 1;
-            c = m.next;
-        } else {
+        let Some(m) = member_at(s, c) else {
             return k;
-        }
+        };
+        put_place(places, k, m.name);
+        k += 1;
+        c = m.next;
     }
     k
 }
@@ -83,11 +74,7 @@ fn is_found(s: &[u8], places: &[u16], n: usize, p: usize) -> bool
     ensures { Stands places.now n p result }
 {
     let i = find(s, places, n, p);
-    if i < n {
-        let q = place_at(places, i);
-        return q == p;
-    }
-    false
+    i < n && place_at(places, i) == p
 }
 
 // The place behind the members from `from` on whose places are found.
@@ -95,19 +82,13 @@ fn found_end(s: &[u8], from: usize, places: &[u16], n: usize) -> usize
     ensures { Found s.now places.now n from result }
 {
     let mut c = from;
-    loop {
-        let m = member_at(s, c);
-        if m.there {
-            let found = is_found(s, places, n, m.name);
-            if found {
-                c = m.next;
-            } else {
-                return c;
-            }
-        } else {
+    while let Some(m) = member_at(s, c) {
+        if !is_found(s, places, n, m.name) {
             return c;
         }
+        c = m.next;
     }
+    c
 }
 
 // The name at `p` goes behind the last of the first `i`, if there is one.
@@ -149,32 +130,19 @@ fn is_between(s: &[u8], places: &[u16], n: usize, i: usize, p: usize) -> bool
 }
 
 // None of the names from `from` on is one of the first `n`, which rise; or the place of that one.
-fn absent(s: &[u8], from: usize, places: &[u16], n: usize) -> Round
+fn absent(s: &[u8], from: usize, places: &[u16], n: usize) -> Result<(), usize>
     requires { Rising (string_at s.now) places.now n }
-    ensures { Absent s.now places.now n from result.passed }
+    ensures { AbsentIn s.now places.now n from result }
 {
     let mut c = from;
-    loop {
-        let m = member_at(s, c);
-        if m.there {
-            let i = find(s, places, n, m.name);
-            let between = is_between(s, places, n, i, m.name);
-            if between {
-                c = m.next;
-            } else {
-                let p = place_at(places, i);
-                return Round {
-                    passed: false,
-                    place: p,
-                };
-            }
-        } else {
-            return Round {
-                passed: true,
-                place: from,
-            };
+    while let Some(m) = member_at(s, c) {
+        let i = find(s, places, n, m.name);
+        if !is_between(s, places, n, i, m.name) {
+            return Err(place_at(places, i));
         }
+        c = m.next;
     }
+    Ok(())
 }
 
 // The earlier of the places of the numbers `r - 1` and `r`.
@@ -187,35 +155,23 @@ fn earlier(places: &[u16], r: usize) -> usize {
     0
 }
 
-// The round of the names from `from` on, of which the first `n` places hold some.
-fn judge(s: &[u8], from: usize, places: &[u16], n: usize) -> Round
-    ensures { Passes s.now from result.passed result.place }
+// The round of the names from `from` on, of which the first `n` places hold some: the place behind them, where they are all different and none comes again;
+// else a place where one that comes again may stand.
+fn judge(s: &[u8], from: usize, places: &[u16], n: usize) -> Result<usize, usize>
+    ensures { Passes s.now from result }
 {
     let r = rise(s, places, n);
     if r < n {
-        let p = earlier(places, r);
-        return Round {
-            passed: false,
-            place: p,
-        };
+        return Err(earlier(places, r));
     }
-    let e = found_end(s, from, places, n);
-    let a = absent(s, e, places, n);
-    if a.passed {
-        return Round {
-            passed: true,
-            place: e,
-        };
-    }
-    Round {
-        passed: false,
-        place: a.place,
-    }
+    let end = found_end(s, from, places, n);
+    absent(s, end, places, n)?;
+    Ok(end)
 }
 
-// The round of the names from `from` on.
-pub fn pass(s: &[u8], from: usize, places: &mut [u16]) -> Round
-    ensures { Passes s.now from result.passed result.place }
+// The same, whatever `places` holds.
+pub fn pass(s: &[u8], from: usize, places: &mut [u16]) -> Result<usize, usize>
+    ensures { Passes s.now from result }
 {
     let n = collect(s, from, places);
     sort(s, places, n);

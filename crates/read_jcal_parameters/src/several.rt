@@ -16,11 +16,10 @@ use octets::unit::{END, LF, QUOTE};
 use read_json::kinds::{is_array, is_none, is_string};
 use read_json::{element_at, element_next};
 use schema::{
-    WordRead, is_listed_parameter, parameter_has_words, parameter_type, read_word_of_parameter,
-    value_type,
+    is_listed_parameter, parameter_has_words, parameter_type, read_word_of_parameter, value_type,
 };
 use source::quoted_unit;
-use values::{ValueRead, read_value};
+use values::read_value;
 
 // TRUE or FALSE.
 fn is_truth(s: &[u8], at: usize) -> bool
@@ -44,10 +43,7 @@ fn is_of_type(q: usize, s: &[u8], at: usize) -> bool
     if t == value_type::BOOLEAN {
         return is_truth(s, at);
     }
-    let ValueRead::Good(v) = read_value(true, t, 3, s, at) else {
-        return false;
-    };
-    true
+    read_value(true, t, 3, s, at).is_some()
 }
 
 // A word of the closed set of the parameter of the number `q`, or a value of its type.
@@ -56,10 +52,7 @@ fn is_chosen(q: usize, s: &[u8], at: usize) -> bool
 {
     let closed = parameter_has_words(q);
     if closed {
-        let WordRead::At(i) = read_word_of_parameter(q, true, 3, s, at) else {
-            return false;
-        };
-        return true;
+        return read_word_of_parameter(q, true, 3, s, at).is_some();
     }
     is_of_type(q, s, at)
 }

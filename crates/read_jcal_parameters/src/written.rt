@@ -29,19 +29,10 @@ use sink::put;
 fn is_quoted(q: usize, s: &[u8], at: usize) -> bool
     ensures { result ≡ quoted_at (row_at q) (rest 3 s.now at) }
 {
-    let always = is_quoted_parameter(q);
-    if always {
-        return true;
-    }
-    let colon = has_byte(COLON, s, at);
-    if colon {
-        return true;
-    }
-    let semicolon = has_byte(SEMICOLON, s, at);
-    if semicolon {
-        return true;
-    }
-    has_byte(COMMA, s, at)
+    is_quoted_parameter(q)
+        || has_byte(COLON, s, at)
+        || has_byte(SEMICOLON, s, at)
+        || has_byte(COMMA, s, at)
 }
 
 // The value whose characters stand from the cursor on.
@@ -138,15 +129,11 @@ fn put_members(out: &mut [u8], o: usize, edition: Edition, s: &[u8], from: usize
 {
     let mut p = o;
     let mut c = from;
-    loop {
-        let m = member_at(s, c);
-        if m.there {
-            p = put_parameter(out, p, edition, s, m.name, m.next);
-            c = m.next;
-        } else {
-            return p;
-        }
+    while let Some(m) = member_at(s, c) {
+        p = put_parameter(out, p, edition, s, m.name, m.next);
+        c = m.next;
     }
+    p
 }
 
 // The parameter whose name stands at `place` can be read.
@@ -164,19 +151,13 @@ fn are_read(s: &[u8], from: usize) -> bool
     ensures { result ≡ every is_read_member (parameters_at s.now from) }
 {
     let mut c = from;
-    loop {
-        let m = member_at(s, c);
-        if m.there {
-            let read = is_read(s, m.name, m.next);
-            if read {
-                c = m.next;
-            } else {
-                return false;
-            }
-        } else {
-            return true;
+    while let Some(m) = member_at(s, c) {
+        if !is_read(s, m.name, m.next) {
+            return false;
         }
+        c = m.next;
     }
+    true
 }
 
 // The parameters from `from` on, as they stand in a content line; nothing where one of them can't be read.

@@ -4,8 +4,7 @@
 --     amounts        one item at least, and one only where the part has no list
 --     part_in        a JSON value has the items of the part, in an array or alone
 --     part_place     the number of the part of a name, which is in small letters; 14 of no part's name
-use Rattle.std.specs.Prelude.{Bool, true, false, List, [], ◌∷◌, ℕ, get_or}
-use Rattle.std.proofs.Math.Option.{Option, none, some}
+use Rattle.std.specs.Prelude.{Bool, true, false, List, [], ◌∷◌, ℕ, get_or, Option, None, Some}
 use Rattle.octets.specs.Pick.{pick}
 use Rattle.octets.specs.Class.{upper, lower}
 use Rattle.octets.specs.Words.{same, is_empty}
@@ -25,8 +24,8 @@ numbered (signed d hi) = true
 numbered weekdaynum = false
 
 abbrev pub is_numbered : Option Part → Bool
-is_numbered none = false
-is_numbered (some r) = numbered r.form
+is_numbered None = false
+is_numbered (Some r) = numbered r.form
 
 unfoldable pub item_in : ℕ → Json → Bool
 item_in i v = is_read (and_then (part_of (get_or part_names i [])) (λ r. read_item r v))

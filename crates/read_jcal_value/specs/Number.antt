@@ -6,8 +6,7 @@
 --     signed_to        the INTEGER, if it is one
 --     MarkAt           the contract of `mark_at`: the first byte that passes a test, or the end
 --     SignAt, ExponentAt, Power, Most    the contracts of `after_sign`, `exponent_at`, `power`, `most_of`
-use Rattle.std.specs.Prelude.{◌≡◌, Bool, true, false, List, ℕ, ◌+◌, ◌-◌, ◌*◌, ◌^◌, ◌≤◌, min, eqb, ltb, leb, length, take}
-use Rattle.std.proofs.Math.Option.{Option}
+use Rattle.std.specs.Prelude.{◌≡◌, Bool, true, false, List, ℕ, ◌+◌, ◌-◌, ◌*◌, ◌^◌, ◌≤◌, min, eqb, ltb, leb, length, take, Option}
 use Rattle.octets.specs.Pick.{pick}
 use Rattle.octets.specs.Append.{◌⊕◌}
 use Rattle.octets.specs.Front.{up_to, past}

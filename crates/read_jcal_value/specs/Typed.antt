@@ -1,8 +1,7 @@
 -- A value of a type (crate jcal, specs/Values.antt), by the type's number and by the head that code finds.
 --     typed_in       whether it is one
 --     pair_in        two strings that are a PERIOD;   geo_in: two numbers that are a GEO
-use Rattle.std.specs.Prelude.{Bool, true, false, List, ℕ, eqb}
-use Rattle.std.proofs.Math.Option.{Option, map}
+use Rattle.std.specs.Prelude.{Bool, true, false, List, ℕ, eqb, Option, option_map}
 use Rattle.octets.specs.Pick.{pick}
 use Rattle.octets.specs.Reading.{and_then, is_read}
 use Rattle.calendar.specs.Calendar.{ical, xcal, BINARY, BOOLEAN, DATE-TIME, DURATION, FLOAT, Value, integer}
@@ -14,7 +13,7 @@ use Rattle.read_json.specs.declared.Head.{Head}
 use Rattle.read_jcal_value.specs.Elements.{string_of, number_of, literal_of, array_of, object_of}
 
 abbrev pub read_integer : List ℕ → Option Value
-read_integer l = map integer (read_number l)
+read_integer l = option_map integer (read_number l)
 
 -- BINARY, BOOLEAN, FLOAT, INTEGER, PERIOD, RECUR by their numbers, any other as its XML element
 abbrev pub typed_in : ℕ → List ℕ → Head → Bool

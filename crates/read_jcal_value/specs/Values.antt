@@ -1,9 +1,7 @@
 -- The values of a property (crate jcal, specs/Values.antt), by numbers.
 --     one_in        whether an element is a value, by the head that code finds;   one_at: by its JSON value
 --     values_in     whether a list of JSON values has the values
---     are_read      what the answer of `values_read` says
-use Rattle.std.specs.Prelude.{Bool, true, false, List, ℕ, eqb}
-use Rattle.std.proofs.Math.Option.{Option}
+use Rattle.std.specs.Prelude.{Bool, false, List, ℕ, eqb, Option}
 use Rattle.octets.specs.Pick.{pick}
 use Rattle.octets.specs.Lists.{every}
 use Rattle.octets.specs.Reading.{provided, and_then, is_read, read_each}
@@ -19,8 +17,6 @@ use Rattle.jcal.specs.Values.{read_geo, read_status, read_chosen}
 use Rattle.read_json.specs.declared.Head.{Head}
 use Rattle.read_jcal_value.specs.Elements.{string_of, array_of}
 use Rattle.read_jcal_value.specs.Typed.{typed_in}
-use Rattle.read_jcal_value.specs.declared.valued.ValuesRead.{ValuesRead}
-use Rattle.read_jcal_value.specs.declared.valued.ValuesRead.TheVariants.{Read, Bad}
 
 -- ---- one value
 
@@ -50,7 +46,3 @@ one_at x v =
 
 abbrev pub values_in : Context → List Json → Bool
 values_in x vs = pick (permits_type x.row x.value_type) (every (one_at x) vs) false
-
-abbrev pub are_read : ValuesRead → Bool
-are_read Read = true
-are_read Bad = false

@@ -14,9 +14,9 @@ ghost use Rattle.read_jcal_value.specs.Items.{is_numbered, item_in, amounts, ite
 use crate::elements::is_end;
 use markup::table;
 use names::find_word;
-use read_json::kinds::{ARRAY, NONE, NUMBER, STRING, kind_number};
+use read_json::kinds::{is_array, is_number, is_string, is_there};
 use read_json::{Head, element_at, element_next};
-use recur::item::{ItemRead, read_item};
+use recur::item::read_item;
 use recur::part;
 use recur::rule::is_list_part;
 
@@ -34,10 +34,7 @@ pub fn part_at(s: &[u8], p: usize) -> usize
 fn is_number_part(i: usize) -> bool
     ensures { result ≡ is_numbered (part_of (get_or part_names i [])) }
 {
-    if i < part::KNOWN {
-        return NUMBERED[i] == 1;
-    }
-    false
+    i < part::KNOWN && NUMBERED[i] == 1
 }
 
 // The string at `p` is an item.
@@ -45,10 +42,7 @@ fn is_string_item(i: usize, s: &[u8], p: usize) -> bool
     requires { p < length s.now }
     ensures { result ≡ is_read (read_item xcal (get_or part_names i []) (string_at s.now p)) }
 {
-    let ItemRead::Good(n) = read_item(i, true, 3, s, 2 * (p + 1)) else {
-        return false;
-    };
-    true
+    read_item(i, true, 3, s, 2 * (p + 1)).is_some()
 }
 
 // The number from `p` to `n` is an item.
@@ -56,10 +50,7 @@ fn is_number_item(i: usize, s: &[u8], p: usize, n: usize) -> bool
     requires { n ≤ length s.now }
     ensures { result ≡ is_read (read_item xcal (get_or part_names i []) (word_at s.now p n)) }
 {
-    let ItemRead::Good(m) = read_item(i, true, 0, &s[..n], p) else {
-        return false;
-    };
-    true
+    read_item(i, true, 0, &s[..n], p).is_some()
 }
 
 // An element that must be a string.
@@ -67,12 +58,7 @@ fn string_item(i: usize, s: &[u8], h: Head) -> bool
     requires { Stands s.now h }
     ensures { result ≡ is_read (and_then (string_of s.now h) (read_item xcal (get_or part_names i []))) }
 {
-    let kind = h.kind;
-    let k = kind_number(kind);
-    if k == STRING {
-        return is_string_item(i, s, h.place);
-    }
-    false
+    is_string(h.kind) && is_string_item(i, s, h.place)
 }
 
 // An element that must be a number.
@@ -80,12 +66,7 @@ fn number_item(i: usize, s: &[u8], h: Head) -> bool
     requires { Stands s.now h }
     ensures { result ≡ is_read (and_then (number_of s.now h) (read_item xcal (get_or part_names i []))) }
 {
-    let kind = h.kind;
-    let k = kind_number(kind);
-    if k == NUMBER {
-        return is_number_item(i, s, h.place, h.next);
-    }
-    false
+    is_number(h.kind) && is_number_item(i, s, h.place, h.next)
 }
 
 // The element is an item.
@@ -93,11 +74,11 @@ fn is_item(i: usize, s: &[u8], h: Head) -> bool
     requires { Stands s.now h }
     ensures { result ≡ item_in i (value_of_head s.now h) }
 {
-    let numeral = is_number_part(i);
-    if numeral {
-        return number_item(i, s, h);
+    if is_number_part(i) {
+        number_item(i, s, h)
+    } else {
+        string_item(i, s, h)
     }
-    string_item(i, s, h)
 }
 
 // Each element from `from` on is an item.
@@ -107,18 +88,13 @@ fn all_items(i: usize, s: &[u8], from: usize) -> bool
     let mut c = from;
     loop {
         let h = element_at(s, c);
-        let kind = h.kind;
-        let k = kind_number(kind);
-        if k == NONE {
+        if !is_there(h.kind) {
             return true;
         }
-        let n = element_next(s, h);
-        let fits = is_item(i, s, h);
-        if fits {
-            c = n;
-        } else {
+        if !is_item(i, s, h) {
             return false;
         }
+        c = element_next(s, h);
     }
 }
 
@@ -127,28 +103,14 @@ fn is_amount(i: usize, s: &[u8], from: usize) -> bool
     ensures { result ≡ amounts (is_listed (part_of (get_or part_names i []))) (element_list (elements_at s.now from)) }
 {
     let h = element_at(s, from);
-    let kind = h.kind;
-    let k = kind_number(kind);
-    if k == NONE {
-        return false;
-    }
-    let n = element_next(s, h);
-    let listed = is_list_part(i);
-    if listed {
-        return true;
-    }
-    is_end(s, n)
+    is_there(h.kind) && (is_list_part(i) || is_end(s, element_next(s, h)))
 }
 
 // The items of the array whose content begins at `from`.
 fn are_items(i: usize, s: &[u8], from: usize) -> bool
     ensures { result ≡ items_in i (element_list (elements_at s.now from)) }
 {
-    let all = all_items(i, s, from);
-    if all {
-        return is_amount(i, s, from);
-    }
-    false
+    all_items(i, s, from) && is_amount(i, s, from)
 }
 
 // The value from `at` on has the items of the part, in an array or alone.
@@ -156,10 +118,9 @@ pub fn is_part(i: usize, s: &[u8], at: usize) -> bool
     ensures { result ≡ part_in i (first_of (elements_at s.now at)) }
 {
     let h = element_at(s, at);
-    let kind = h.kind;
-    let k = kind_number(kind);
-    if k == ARRAY {
-        return are_items(i, s, h.next);
+    if is_array(h.kind) {
+        are_items(i, s, h.next)
+    } else {
+        is_item(i, s, h)
     }
-    is_item(i, s, h)
 }

@@ -8,20 +8,15 @@ ghost use Rattle.read_json.specs.TreeAt.{string_at, word_at};
 ghost use Rattle.read_jcal_value.specs.Typed.{read_integer};
 
 use crate::number::read_number;
-use numbers::integer::IntegerRead;
 use schema::value_type;
-use values::{ValueRead, read_value};
+use values::read_value;
 
 // The string at `p` spells a value of the type of the number `t` as its XML element does.
 pub fn is_string_of(t: usize, s: &[u8], p: usize) -> bool
     requires { p < length s.now }
     ensures { result ≡ is_read (read_value xcal (type_at t) (string_at s.now p)) }
 {
-    let v = read_value(true, t, 3, s, 2 * (p + 1));
-    match v {
-        ValueRead::Good(n) => true,
-        ValueRead::Bad => false,
-    }
+    read_value(true, t, 3, s, 2 * (p + 1)).is_some()
 }
 
 // The string at `p` is a BINARY; white space in it is not dropped.
@@ -29,11 +24,7 @@ pub fn is_binary(s: &[u8], p: usize) -> bool
     requires { p < length s.now }
     ensures { result ≡ is_read (read_value ical BINARY (string_at s.now p)) }
 {
-    let v = read_value(false, value_type::BINARY, 3, s, 2 * (p + 1));
-    match v {
-        ValueRead::Good(n) => true,
-        ValueRead::Bad => false,
-    }
+    read_value(false, value_type::BINARY, 3, s, 2 * (p + 1)).is_some()
 }
 
 // The bytes from `p` to `n` are a value of the type of the number `t`.
@@ -41,11 +32,7 @@ pub fn is_word_of(t: usize, s: &[u8], p: usize, n: usize) -> bool
     requires { n ≤ length s.now }
     ensures { result ≡ is_read (read_value xcal (type_at t) (word_at s.now p n)) }
 {
-    let v = read_value(true, t, 0, &s[..n], p);
-    match v {
-        ValueRead::Good(n) => true,
-        ValueRead::Bad => false,
-    }
+    read_value(true, t, 0, &s[..n], p).is_some()
 }
 
 // The number from `p` to `n` is an INTEGER.
@@ -53,9 +40,5 @@ pub fn is_integer(s: &[u8], p: usize, n: usize) -> bool
     requires { (p ≤ n) × (n ≤ length s.now) }
     ensures { result ≡ is_read (read_integer (word_at s.now p n)) }
 {
-    let v = read_number(&s[..n], p);
-    match v {
-        IntegerRead::Value(neg, m) => true,
-        IntegerRead::Bad => false,
-    }
+    read_number(&s[..n], p).is_some()
 }

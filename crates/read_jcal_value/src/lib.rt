@@ -12,4 +12,4 @@ mod typed;
 mod valued;
 
 pub use number::read_number;
-pub use valued::{ValuesRead, values_read};
+pub use valued::values_read;

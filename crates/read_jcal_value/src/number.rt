@@ -1,5 +1,5 @@
 // INTEGER by its value. See specs/Number.antt.
-ghost use Rattle.std.specs.Prelude.{◌≡◌, ◌+◌, ◌-◌, ◌*◌, ◌^◌, ◌≤◌, ◌<◌, min, length, take};
+ghost use Rattle.std.specs.Prelude.{◌≡◌, ◌+◌, ◌-◌, ◌*◌, ◌^◌, ◌≤◌, ◌<◌, min, length, take, option_map};
 ghost use Rattle.octets.specs.Append.{◌⊕◌};
 ghost use Rattle.octets.specs.Decimal.{digit_of};
 ghost use Rattle.numbers.specs.Sign.{has_minus};
@@ -9,7 +9,7 @@ ghost use Rattle.jcal.specs.Integer.{read_number};
 ghost use Rattle.read_jcal_value.specs.Digits.{next_worth, DigitWorth, Worth};
 ghost use Rattle.read_jcal_value.specs.Number.{kept_of, up_of, raised_to, magnitude_of, signed_to, mark_of, MarkAt, SignAt, ExponentAt, Power, Most};
 
-use numbers::integer::IntegerRead;
+use numbers::integer::Integer;
 use octets::unit::{HYPHEN, LOWER_E, NINE, PLUS, POINT, UPPER_E, ZERO};
 use octets::{smaller, wide};
 
@@ -264,23 +264,29 @@ fn most_of(neg: bool) -> usize
 }
 
 // The number with its sign: zero has none.
-fn signed(neg: bool, n: usize) -> IntegerRead
-    ensures { signed_to neg n ≡ whole_of result }
+fn signed(neg: bool, n: usize) -> Option<Integer>
+    ensures { signed_to neg n ≡ option_map whole_of result }
 {
     let most = most_of(neg);
     if most < n {
-        return IntegerRead::Bad;
+        return None;
     }
     if n == 0 {
-        return IntegerRead::Value(false, 0);
+        return Some(Integer {
+            negative: false,
+            magnitude: 0,
+        });
     }
-    IntegerRead::Value(neg, n as u32)
+    Some(Integer {
+        negative: neg,
+        magnitude: n as u32,
+    })
 }
 
 // The INTEGER that the JSON number from `at` to the end resolves to.
-pub fn read_number(s: &[u8], at: usize) -> IntegerRead
+pub fn read_number(s: &[u8], at: usize) -> Option<Integer>
     requires { at ≤ length s.now }
-    ensures { read_number (rest 0 s.now at) ≡ whole_of result }
+    ensures { read_number (rest 0 s.now at) ≡ option_map whole_of result }
 {
     let neg = is_negative(s, at);
     let a = after_sign(s, at);

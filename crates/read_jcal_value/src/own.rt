@@ -7,55 +7,48 @@ ghost use Rattle.jcal.specs.Values.{read_geo, read_status};
 ghost use Rattle.read_json.specs.TreeAt.{elements_at, word_at};
 ghost use Rattle.read_jcal_value.specs.Typed.{geo_in};
 
-use crate::elements::{First, is_end, leaf_at};
+use crate::elements::{Leaf, is_end, leaf_at};
 use crate::leaves::is_word_of;
 use schema::value_type;
 
-// The numbers from `p` to `n`, and from `q` to `m`.
-fn is_place(s: &[u8], p: usize, n: usize, q: usize, m: usize) -> bool
-    requires { (n ≤ length s.now) × (m ≤ length s.now) }
-    ensures { result ≡ geo_in (word_at s.now p n) (word_at s.now q m) }
+// The numbers of the bytes of two elements.
+fn is_place(s: &[u8], latitude: Leaf, longitude: Leaf) -> bool
+    requires { (latitude.next ≤ length s.now) × (longitude.next ≤ length s.now) }
+    ensures { result
+        ≡ geo_in (word_at s.now latitude.place latitude.next) (word_at s.now longitude.place longitude.next) }
 {
-    let latitude = is_word_of(value_type::FLOAT, s, p, n);
-    if latitude {
-        return is_word_of(value_type::FLOAT, s, q, m);
-    }
-    false
+    is_word_of(value_type::FLOAT, s, latitude.place, latitude.next)
+        && is_word_of(value_type::FLOAT, s, longitude.place, longitude.next)
 }
 
 // The array whose content begins at `from`.
 pub fn is_geo(s: &[u8], from: usize) -> bool
     ensures { result ≡ is_read (read_geo (element_list (elements_at s.now from))) }
 {
-    let First::At(p, n) = leaf_at(true, s, from) else {
+    let Some(latitude) = leaf_at(true, s, from) else {
         return false;
     };
-    let First::At(q, m) = leaf_at(true, s, n) else {
+    let Some(longitude) = leaf_at(true, s, latitude.next) else {
         return false;
     };
-    let last = is_end(s, m);
-    if last {
-        return is_place(s, p, n, q, m);
-    }
-    false
+    is_end(s, longitude.next) && is_place(s, latitude, longitude)
 }
 
 // The same of REQUEST-STATUS.
 pub fn is_status(s: &[u8], from: usize) -> bool
     ensures { result ≡ is_read (and_then (read_each as_string (element_list (elements_at s.now from))) read_status) }
 {
-    let First::At(p, n) = leaf_at(false, s, from) else {
+    let Some(code) = leaf_at(false, s, from) else {
         return false;
     };
-    let First::At(q, m) = leaf_at(false, s, n) else {
+    let Some(text) = leaf_at(false, s, code.next) else {
         return false;
     };
-    let two = is_end(s, m);
-    if two {
+    if is_end(s, text.next) {
         return true;
     }
-    let First::At(x, e) = leaf_at(false, s, m) else {
+    let Some(data) = leaf_at(false, s, text.next) else {
         return false;
     };
-    is_end(s, e)
+    is_end(s, data.next)
 }

@@ -15,19 +15,7 @@ use recur::part;
 fn is_whole(seen: u32) -> bool
     ensures { result ≡ whole_in seen }
 {
-    let freq = holds(seen, part::FREQ);
-    if freq {
-        let until = holds(seen, part::UNTIL);
-        if until {
-            let count = holds(seen, part::COUNT);
-            if count {
-                return false;
-            }
-            return true;
-        }
-        return true;
-    }
-    false
+    holds(seen, part::FREQ) && !(holds(seen, part::UNTIL) && holds(seen, part::COUNT))
 }
 
 // The object whose content begins at `from`.
@@ -36,24 +24,16 @@ pub fn is_rule(s: &[u8], from: usize) -> bool
 {
     let mut seen: u32 = 0;
     let mut c = from;
-    loop {
-        let m = member_at(s, c);
-        if m.there {
-            let i = part_at(s, m.name);
-            let fits = is_part(i, s, m.next);
-            if fits {
-                let again = holds(seen, i);
-                if again {
-                    return false;
-                }
-                let more = insert(seen, i);
-                seen = more;
-                c = m.next;
-            } else {
-                return false;
-            }
-        } else {
-            return is_whole(seen);
+    while let Some(m) = member_at(s, c) {
+        let i = part_at(s, m.name);
+        if !is_part(i, s, m.next) {
+            return false;
         }
+        if holds(seen, i) {
+            return false;
+        }
+        seen = insert(seen, i);
+        c = m.next;
     }
+    is_whole(seen)
 }

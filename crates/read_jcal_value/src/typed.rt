@@ -12,77 +12,47 @@ use crate::leaves::{is_binary, is_integer, is_string_of, is_word_of};
 use crate::period::is_period;
 use crate::rule::is_rule;
 use read_json::Head;
-use read_json::kinds::{ARRAY, LITERAL, NUMBER, OBJECT, STRING, kind_number};
+use read_json::kinds::{is_array, is_literal, is_number, is_object, is_string};
 use schema::value_type;
 
 fn binary_read(s: &[u8], h: Head) -> bool
     requires { Stands s.now h }
     ensures { result ≡ is_read (and_then (string_of s.now h) (read_value ical BINARY)) }
 {
-    let kind = h.kind;
-    let k = kind_number(kind);
-    if k == STRING {
-        return is_binary(s, h.place);
-    }
-    false
+    is_string(h.kind) && is_binary(s, h.place)
 }
 
 fn boolean_read(s: &[u8], h: Head) -> bool
     requires { Stands s.now h }
     ensures { result ≡ is_read (and_then (literal_of s.now h) (read_value xcal BOOLEAN)) }
 {
-    let kind = h.kind;
-    let k = kind_number(kind);
-    if k == LITERAL {
-        return is_word_of(value_type::BOOLEAN, s, h.place, h.next);
-    }
-    false
+    is_literal(h.kind) && is_word_of(value_type::BOOLEAN, s, h.place, h.next)
 }
 
 fn float_read(s: &[u8], h: Head) -> bool
     requires { Stands s.now h }
     ensures { result ≡ is_read (and_then (number_of s.now h) (read_value xcal FLOAT)) }
 {
-    let kind = h.kind;
-    let k = kind_number(kind);
-    if k == NUMBER {
-        return is_word_of(value_type::FLOAT, s, h.place, h.next);
-    }
-    false
+    is_number(h.kind) && is_word_of(value_type::FLOAT, s, h.place, h.next)
 }
 
 fn integer_read(s: &[u8], h: Head) -> bool
     requires { Stands s.now h }
     ensures { result ≡ is_read (and_then (number_of s.now h) read_integer) }
 {
-    let kind = h.kind;
-    let k = kind_number(kind);
-    if k == NUMBER {
-        return is_integer(s, h.place, h.next);
-    }
-    false
+    is_number(h.kind) && is_integer(s, h.place, h.next)
 }
 
 fn period_read(s: &[u8], h: Head) -> bool
     ensures { result ≡ is_read (and_then (array_of s.now h) read_period) }
 {
-    let kind = h.kind;
-    let k = kind_number(kind);
-    if k == ARRAY {
-        return is_period(s, h.next);
-    }
-    false
+    is_array(h.kind) && is_period(s, h.next)
 }
 
 fn rule_read(s: &[u8], h: Head) -> bool
     ensures { result ≡ is_read (and_then (object_of s.now h) read_recur) }
 {
-    let kind = h.kind;
-    let k = kind_number(kind);
-    if k == OBJECT {
-        return is_rule(s, h.next);
-    }
-    false
+    is_object(h.kind) && is_rule(s, h.next)
 }
 
 // Any other type.
@@ -90,12 +60,7 @@ fn string_read(t: usize, s: &[u8], h: Head) -> bool
     requires { Stands s.now h }
     ensures { result ≡ is_read (and_then (string_of s.now h) (read_value xcal (type_at t))) }
 {
-    let kind = h.kind;
-    let k = kind_number(kind);
-    if k == STRING {
-        return is_string_of(t, s, h.place);
-    }
-    false
+    is_string(h.kind) && is_string_of(t, s, h.place)
 }
 
 // The element is a value of the type of the number `t`.

@@ -13,64 +13,39 @@ ghost use Rattle.jcal.specs.Values.{read_geo, read_values};
 ghost use Rattle.read_json.specs.TreeAt.{elements_at, string_at};
 ghost use Rattle.read_json.specs.Heads.{value_of_head};
 ghost use Rattle.read_jcal_value.specs.Elements.{Stands, string_of, array_of};
-ghost use Rattle.read_jcal_value.specs.Values.{read_strings, read_word_in, chosen_in, one_at, are_read};
+ghost use Rattle.read_jcal_value.specs.Values.{read_strings, read_word_in, chosen_in, one_at};
 
 use crate::own::{is_geo, is_status};
 use crate::typed::typed_read;
-use read_json::kinds::{ARRAY, NONE, STRING, kind_number};
+use read_json::kinds::{is_array, is_string, is_there};
 use read_json::{Head, element_at, element_next};
-use schema::{Context, WordRead, has_words, permits_type, property, read_word_of};
-
-// The values are there, or not.
-#[derive(Clone, Copy)]
-pub enum ValuesRead {
-    Read,
-    Bad,
-}
+use schema::{Context, has_words, permits_type, property, read_word_of};
 
 // The string at `q` is a word of the closed set of a property in a component.
 fn is_word(k: usize, p: usize, s: &[u8], q: usize) -> bool
     requires { q < length s.now }
     ensures { result ≡ is_read (read_word_in (words_at k p) (string_at s.now q)) }
 {
-    let WordRead::At(i) = read_word_of(k, p, true, 3, s, 2 * (q + 1)) else {
-        return false;
-    };
-    true
+    read_word_of(k, p, true, 3, s, 2 * (q + 1)).is_some()
 }
 
 fn word_read(k: usize, p: usize, s: &[u8], h: Head) -> bool
     requires { Stands s.now h }
     ensures { result ≡ is_read (and_then (string_of s.now h) (read_word_in (words_at k p))) }
 {
-    let kind = h.kind;
-    let code = kind_number(kind);
-    if code == STRING {
-        return is_word(k, p, s, h.place);
-    }
-    false
+    is_string(h.kind) && is_word(k, p, s, h.place)
 }
 
 fn geo_read(s: &[u8], h: Head) -> bool
     ensures { result ≡ is_read (and_then (array_of s.now h) read_geo) }
 {
-    let kind = h.kind;
-    let k = kind_number(kind);
-    if k == ARRAY {
-        return is_geo(s, h.next);
-    }
-    false
+    is_array(h.kind) && is_geo(s, h.next)
 }
 
 fn status_read(s: &[u8], h: Head) -> bool
     ensures { result ≡ is_read (and_then (array_of s.now h) read_strings) }
 {
-    let kind = h.kind;
-    let k = kind_number(kind);
-    if k == ARRAY {
-        return is_status(s, h.next);
-    }
-    false
+    is_array(h.kind) && is_status(s, h.next)
 }
 
 // A word of the closed set that the property has in the component, or a value of the type.
@@ -79,12 +54,11 @@ fn chosen_read(context: Context, s: &[u8], h: Head) -> bool
     ensures { result
         ≡ chosen_in (words_at context.component context.row.number) context.value_type s.now h }
 {
-    let p = context.row.number;
-    let closed = has_words(context.component, p);
-    if closed {
-        return word_read(context.component, p, s, h);
+    if has_words(context.component, context.row.number) {
+        word_read(context.component, context.row.number, s, h)
+    } else {
+        typed_read(context.value_type, s, h)
     }
-    typed_read(context.value_type, s, h)
 }
 
 // The element is a value of the property.
@@ -109,37 +83,24 @@ fn all_read(context: Context, s: &[u8], from: usize) -> bool
     let mut c = from;
     loop {
         let h = element_at(s, c);
-        let kind = h.kind;
-        let k = kind_number(kind);
-        if k == NONE {
+        if !is_there(h.kind) {
             return true;
         }
-        let n = element_next(s, h);
-        let fits = one_read(context, s, h);
-        if fits {
-            c = n;
-        } else {
+        if !one_read(context, s, h) {
             return false;
         }
+        c = element_next(s, h);
     }
 }
 
 // The elements from `from` on are values of the context's property, of its type.
-pub fn values_read(context: Context, s: &[u8], from: usize) -> ValuesRead
+pub fn values_read(context: Context, s: &[u8], from: usize) -> bool
     ensures { (c w : List ℕ) →
         context.component ≡ place_of c component_names →
         context.row ≡ row_at (place_of w property_names) →
         context.value_type ≤ 14 →
-        are_read result
+        result
         ≡ is_read (read_values c w (type_at context.value_type) (element_list (elements_at s.now from))) }
 {
-    let permitted = permits_type(context.row, context.value_type);
-    if permitted {
-        let all = all_read(context, s, from);
-        if all {
-            return ValuesRead::Read;
-        }
-        return ValuesRead::Bad;
-    }
-    ValuesRead::Bad
+    permits_type(context.row, context.value_type) && all_read(context, s, from)
 }

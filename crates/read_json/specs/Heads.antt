@@ -10,11 +10,11 @@ use Rattle.read_json.specs.TreeAt.{tokens_at, elements_at, members_at, string_at
 use Rattle.read_json.specs.Pieces.{Taken}
 use Rattle.read_json.specs.declared.Head.{Head}
 use Rattle.read_json.specs.declared.HeadKind.{HeadKind}
-use Rattle.read_json.specs.declared.HeadKind.TheVariants.{None, String, Number, Literal, Array, Object}
+use Rattle.read_json.specs.declared.HeadKind.TheVariants.{Absent, String, Number, Literal, Array, Object}
 
 -- the element at p, which ends at n, or whose content begins there; without one what stands for it, null
 abbrev pub value_by : HeadKind → List ℕ → ℕ → ℕ → Json
-value_by None s p n = literal 0 []
+value_by Absent s p n = literal 0 []
 value_by String s p n = string p (string_at s p)
 value_by Number s p n = number p (word_at s p n)
 value_by Literal s p n = literal p (word_at s p n)
@@ -25,7 +25,7 @@ abbrev pub value_of_head : List ℕ → Head → Json
 value_of_head s h = value_by h.kind s h.place h.next
 
 abbrev pub behind_by : HeadKind → List ℕ → ℕ → Elements
-behind_by None s n = no_elements
+behind_by Absent s n = no_elements
 behind_by String s n = elements_at s n
 behind_by Number s n = elements_at s n
 behind_by Literal s n = elements_at s n
@@ -33,7 +33,7 @@ behind_by Array s n = elements (tokens_at s n) 1
 behind_by Object s n = elements (tokens_at s n) 1
 
 abbrev pub head_by : HeadKind → List ℕ → ℕ → ℕ → Elements
-head_by None s p n = no_elements
+head_by Absent s p n = no_elements
 head_by String s p n = element (value_by String s p n) (behind_by String s n)
 head_by Number s p n = element (value_by Number s p n) (behind_by Number s n)
 head_by Literal s p n = element (value_by Literal s p n) (behind_by Literal s n)
@@ -41,7 +41,7 @@ head_by Array s p n = element (value_by Array s p n) (behind_by Array s n)
 head_by Object s p n = element (value_by Object s p n) (behind_by Object s n)
 
 abbrev pub HeadTakes : HeadKind → List ℕ → ℕ → ℕ → ℕ → Type 0
-HeadTakes None s at p n = Unit {0}
+HeadTakes Absent s at p n = Unit {0}
 HeadTakes String s at p n = Taken s at p n
 HeadTakes Number s at p n = Taken s at p n
 HeadTakes Literal s at p n = Taken s at p n

@@ -9,7 +9,7 @@ use Rattle.json_text.specs.Tree.{string, number, literal, Token, opens_array, op
 use Rattle.read_json.specs.TreeAt.{tokens_at, string_at, word_at}
 use Rattle.read_json.specs.declared.Piece.{Piece}
 use Rattle.read_json.specs.declared.PieceKind.{PieceKind}
-use Rattle.read_json.specs.declared.PieceKind.TheVariants.{None, Array, Object, Close, Name, String, Number, Literal}
+use Rattle.read_json.specs.declared.PieceKind.TheVariants.{Absent, Array, Object, Close, Name, String, Number, Literal}
 
 pub record Passed (s : List ℕ) (at r : ℕ) : Type 0 where
   pub same : tokens_at s at ≡ tokens_at s r
@@ -24,7 +24,7 @@ pub record BeginsWord (b : ℕ) : Type 0 where
   pub quoted : b ≡ quotation_mark → ⊥
 
 abbrev pub piece_by : PieceKind → List ℕ → ℕ → ℕ → List Token
-piece_by None s p n = []
+piece_by Absent s p n = []
 piece_by Array s p n = opens_array p ∷ tokens_at s n
 piece_by Object s p n = opens_object p ∷ tokens_at s n
 piece_by Close s p n = closes p ∷ tokens_at s n
@@ -40,7 +40,7 @@ pub record Taken (s : List ℕ) (at p n : ℕ) : Type 0 where
   pub inside : n ≤ length s
 
 abbrev pub Takes : PieceKind → List ℕ → ℕ → ℕ → ℕ → Type 0
-Takes None s at p n = Unit {0}
+Takes Absent s at p n = Unit {0}
 Takes Array s at p n = Taken s at p n
 Takes Object s at p n = Taken s at p n
 Takes Close s at p n = Taken s at p n

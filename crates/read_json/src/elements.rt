@@ -2,7 +2,7 @@
 ghost use Rattle.std.specs.Prelude.{◌≡◌, ◌≤◌, length};
 ghost use Rattle.read_json.specs.Heads.{head_of, HeadAt, NextAt};
 
-use crate::closing::container_end;
+use crate::closing::behind_container;
 use crate::pieces::token_at;
 use crate::{Head, HeadKind, PieceKind};
 
@@ -19,32 +19,16 @@ pub fn element_at(s: &[u8], at: usize) -> Head
     let mut c = at;
     loop {
         let t = token_at(s, c);
-        let kind = t.kind;
-        match kind {
-            PieceKind::None => {
-                return head(HeadKind::None, s.len(), s.len());
+        match t.kind {
+            PieceKind::Absent | PieceKind::Close => {
+                return head(HeadKind::Absent, s.len(), s.len());
             }
-            PieceKind::Array => {
-                return head(HeadKind::Array, t.place, t.next);
-            }
-            PieceKind::Object => {
-                return head(HeadKind::Object, t.place, t.next);
-            }
-            PieceKind::Close => {
-                return head(HeadKind::None, s.len(), s.len());
-            }
-            PieceKind::Name => {
-                c = t.next;
-            }
-            PieceKind::String => {
-                return head(HeadKind::String, t.place, t.next);
-            }
-            PieceKind::Number => {
-                return head(HeadKind::Number, t.place, t.next);
-            }
-            PieceKind::Literal => {
-                return head(HeadKind::Literal, t.place, t.next);
-            }
+            PieceKind::Array => return head(HeadKind::Array, t.place, t.next),
+            PieceKind::Object => return head(HeadKind::Object, t.place, t.next),
+            PieceKind::Name => c = t.next,
+            PieceKind::String => return head(HeadKind::String, t.place, t.next),
+            PieceKind::Number => return head(HeadKind::Number, t.place, t.next),
+            PieceKind::Literal => return head(HeadKind::Literal, t.place, t.next),
         }
     }
 }
@@ -54,19 +38,9 @@ pub fn element_next(s: &[u8], h: Head) -> usize
     requires { h.next ≤ length s.now }
     ensures { NextAt s.now h result }
 {
-    let kind = h.kind;
-    match kind {
-        HeadKind::None => s.len(),
-        HeadKind::String => h.next,
-        HeadKind::Number => h.next,
-        HeadKind::Literal => h.next,
-        HeadKind::Array => {
-            let e = container_end(s, h.next);
-            e.next
-        }
-        HeadKind::Object => {
-            let e = container_end(s, h.next);
-            e.next
-        }
+    match h.kind {
+        HeadKind::Absent => s.len(),
+        HeadKind::String | HeadKind::Number | HeadKind::Literal => h.next,
+        HeadKind::Array | HeadKind::Object => behind_container(s, h.next),
     }
 }

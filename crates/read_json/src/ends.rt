@@ -16,33 +16,21 @@ use octets::{is_digit, is_small, is_space, wide};
 pub fn is_separator(u: usize) -> bool
     ensures { result ≡ is_separator u }
 {
-    if is_space(u) {
-        return true;
-    }
-    if u == COLON {
-        return true;
-    }
-    u == COMMA
+    is_space(u) || u == COLON || u == COMMA
 }
 
 // A byte of a number or a literal that is no letter or digit, or a capital.
 fn is_number_sign(u: usize) -> bool
     ensures { result ≡ (is_e u or is_sign u or eqb u decimal_point) }
 {
-    ((u == LOWER_E) | (u == UPPER_E)) | (((u == HYPHEN) | (u == PLUS)) | (u == POINT))
+    u == LOWER_E || u == UPPER_E || u == HYPHEN || u == PLUS || u == POINT
 }
 
 // A byte of a number or a literal.
 fn is_scalar(u: usize) -> bool
     ensures { result ≡ is_scalar u }
 {
-    if is_digit(u) {
-        return true;
-    }
-    if is_small(u) {
-        return true;
-    }
-    is_number_sign(u)
+    is_digit(u) || is_small(u) || is_number_sign(u)
 }
 
 // The place behind the string whose first character stands at `at`.
@@ -53,8 +41,7 @@ pub fn string_end(s: &[u8], at: usize) -> usize
     let mut i = at;
     while i < s.len() {
         let c = char_at(s, i);
-        let u = c.u;
-        if u == END {
+        if c.u == END {
             return i + 1;
         }
         i = c.next;
@@ -68,14 +55,8 @@ pub fn word_end(s: &[u8], at: usize) -> usize
     ensures { (result ≡ span_end is_scalar s.now at) × (result ≤ length s.now) }
 {
     let mut i = at;
-    while i < s.len() {
-        let u = wide(s[i]);
-        let scalar = is_scalar(u);
-        if scalar {
-            i += 1;
-        } else {
-            return i;
-        }
+    while i < s.len() && is_scalar(wide(s[i])) {
+        i += 1;
     }
     i
 }
@@ -87,12 +68,10 @@ pub fn colon_follows(s: &[u8], at: usize) -> bool
     let mut i = at;
     while i < s.len() {
         let u = wide(s[i]);
-        let space = is_space(u);
-        if space {
-            i += 1;
-        } else {
+        if !is_space(u) {
             return u == COLON;
         }
+        i += 1;
     }
     false
 }

@@ -13,9 +13,9 @@ pub use elements::{element_at, element_next};
 pub use members::member_at;
 
 // A token: none, where the text ends; a bracket that opens an array or object, or closes one; a name, a string, a number, a literal.
-#[derive(Clone, Copy)]
+#[derive(Clone, Copy, Debug, PartialEq, Eq)]
 pub enum PieceKind {
-    None,
+    Absent,
     Array,
     Object,
     Close,
@@ -26,7 +26,7 @@ pub enum PieceKind {
 }
 
 // Its place, and the place behind it.
-#[derive(Clone, Copy)]
+#[derive(Clone, Copy, Debug, PartialEq, Eq)]
 pub struct Piece {
     pub kind: PieceKind,
     pub place: usize,
@@ -34,16 +34,16 @@ pub struct Piece {
 }
 
 // The end of an array or object: the place of the bracket that closes it, and the place behind that.
-#[derive(Clone, Copy)]
+#[derive(Clone, Copy, Debug, PartialEq, Eq)]
 pub struct Ended {
     pub place: usize,
     pub next: usize,
 }
 
 // Nothing more in the array; or an element, by its kind.
-#[derive(Clone, Copy)]
+#[derive(Clone, Copy, Debug, PartialEq, Eq)]
 pub enum HeadKind {
-    None,
+    Absent,
     String,
     Number,
     Literal,
@@ -52,17 +52,16 @@ pub enum HeadKind {
 }
 
 // An element: its place, and the place behind it; of an array or object, the place behind the bracket that opens it.
-#[derive(Clone, Copy)]
+#[derive(Clone, Copy, Debug, PartialEq, Eq)]
 pub struct Head {
     pub kind: HeadKind,
     pub place: usize,
     pub next: usize,
 }
 
-// A member, if there is one: the place of its name, and the place behind that, from where on its value stands.
-#[derive(Clone, Copy)]
+// A member: the place of its name, and the place behind that, from where on its value stands.
+#[derive(Clone, Copy, Debug, PartialEq, Eq)]
 pub struct MemberHead {
-    pub there: bool,
     pub name: usize,
     pub next: usize,
 }

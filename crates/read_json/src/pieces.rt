@@ -16,14 +16,8 @@ fn token_place(s: &[u8], at: usize) -> usize
     ensures { Passed s.now at result }
 {
     let mut i = at;
-    while i < s.len() {
-        let u = wide(s[i]);
-        let separator = is_separator(u);
-        if separator {
-            i += 1;
-        } else {
-            return i;
-        }
+    while i < s.len() && is_separator(wide(s[i])) {
+        i += 1;
     }
     i
 }
@@ -33,19 +27,19 @@ fn string_piece(s: &[u8], p: usize) -> Piece
     requires { (p < length s.now) × (get_or s.now p 0 ≡ quotation_mark) }
     ensures { PieceAt s.now p result }
 {
-    let n = string_end(s, p + 1);
-    let name = colon_follows(s, n);
-    if name {
-        return Piece {
+    let next = string_end(s, p + 1);
+    if colon_follows(s, next) {
+        Piece {
             kind: PieceKind::Name,
             place: p,
-            next: n,
-        };
-    }
-    Piece {
-        kind: PieceKind::String,
-        place: p,
-        next: n,
+            next,
+        }
+    } else {
+        Piece {
+            kind: PieceKind::String,
+            place: p,
+            next,
+        }
     }
 }
 
@@ -54,20 +48,19 @@ fn word_piece(s: &[u8], p: usize) -> Piece
     requires { (p < length s.now) × BeginsWord (get_or s.now p 0) }
     ensures { PieceAt s.now p result }
 {
-    let n = word_end(s, p + 1);
-    let u = wide(s[p]);
-    let letter = is_small(u);
-    if letter {
-        return Piece {
+    let next = word_end(s, p + 1);
+    if is_small(wide(s[p])) {
+        Piece {
             kind: PieceKind::Literal,
             place: p,
-            next: n,
-        };
-    }
-    Piece {
-        kind: PieceKind::Number,
-        place: p,
-        next: n,
+            next,
+        }
+    } else {
+        Piece {
+            kind: PieceKind::Number,
+            place: p,
+            next,
+        }
     }
 }
 
@@ -133,7 +126,7 @@ pub fn token_at(s: &[u8], at: usize) -> Piece
         return piece_at(s, p);
     }
     Piece {
-        kind: PieceKind::None,
+        kind: PieceKind::Absent,
         place: p,
         next: p,
     }

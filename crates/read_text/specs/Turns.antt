@@ -2,11 +2,11 @@
 --     on_from     the verdict from a place on, with components open
 --     Turned      a line's kind, what it does to the open components, and the place behind it
 --     Body        a component: whatever is open around it, with so many levels left, in a calendar with METHOD or without, the text goes on behind it, or is refused
-use Rattle.std.specs.Prelude.{◌≡◌, Bool, List, ◌∷◌, ℕ, ◌+◌, ◌≤◌, ◌<◌, length, take}
+use Rattle.std.specs.Prelude.{◌≡◌, Bool, List, ◌∷◌, ℕ, ◌+◌, ◌≤◌, ◌<◌, length, take, Result, Ok, Err}
 use Rattle.source.specs.Source.{rest}
 use Rattle.calendar.specs.Calendar.{Property}
 use Rattle.calendar.specs.Levels.{levels}
-use Rattle.calendar.specs.Refusal.{Verdict, refuse, refusal_at}
+use Rattle.calendar.specs.Refusal.{Verdict, refuse}
 use Rattle.read_text_line.specs.LineEnd.{index, lines_at}
 use Rattle.read_text_line.specs.Ready.{Ready}
 use Rattle.text.specs.Nesting.{Open, opened, has_level, method_in, onward, nesting}
@@ -15,15 +15,15 @@ use Rattle.edition.specs.declared.Edition.{Edition}
 use Rattle.read_text.specs.Places.{PlaceAt}
 use Rattle.read_text.specs.Kinds.{KindIs}
 use Rattle.read_text.specs.declared.Turn.{Turn}
-use Rattle.read_text.specs.declared.Step.{Step}
-use Rattle.read_text.specs.declared.Step.TheVariants.{Closed, Failed}
+use Rattle.refusals.specs.Fault.{refusal_of}
+use Rattle.refusals.specs.declared.Fault.{Fault}
 
 abbrev pub open_in : List ℕ → List Property → Bool → Open
 open_in c seen inner = record { name = c; seen = seen; inner = inner }
 
-abbrev pub Ends : ℕ → List ℕ → ℕ → Step → Type 0
-Ends m s from (Closed next) = (from < next) × Ready m s next
-Ends m s from (Failed n p) = p ≤ length s
+abbrev pub Ends : ℕ → List ℕ → ℕ → Result ℕ Fault → Type 0
+Ends m s from (Ok next) = (from < next) × Ready m s next
+Ends m s from (Err f) = f.place ≤ length s
 
 module _ (ed : Edition) where
   abbrev pub on_from : ℕ → List ℕ → ℕ → List Open → Verdict
@@ -45,10 +45,10 @@ module _ (ed : Edition) where
   -- ---- a component
 
   -- the text goes on at a cursor, or is refused
-  abbrev pub resumed : ℕ → List ℕ → Step → List Open → Verdict
-  resumed m s (Closed next) st = on_from m s next st
-  resumed m s (Failed n p) st = refuse (refusal_at n) (index m s p)
+  abbrev pub resumed : ℕ → List ℕ → Result ℕ Fault → List Open → Verdict
+  resumed m s (Ok next) st = on_from m s next st
+  resumed m s (Err f) st = refuse (refusal_of f.refusal) (index m s f.place)
 
-  pub record Body (c : List ℕ) (left : ℕ) (method : Bool) (m : ℕ) (s : List ℕ) (from : ℕ) (r : Step) : Type 0 where
+  pub record Body (c : List ℕ) (left : ℕ) (method : Bool) (m : ℕ) (s : List ℕ) (from : ℕ) (r : Result ℕ Fault) : Type 0 where
     pub ends : Ends m s from r
     pub agrees : (st : List Open) → method_in st ≡ method → length st + 1 + left ≡ levels → on_from m s from (opened c ∷ st) ≡ resumed m s r st

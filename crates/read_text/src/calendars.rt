@@ -13,109 +13,97 @@ use crate::component::body;
 use crate::line::no_params;
 use crate::named::is_component_name;
 use crate::places::parameter_cursor;
-use crate::{Checked, Opening, Step};
 use edition::Edition;
 use names::is_word_any_case;
-use read_text_line::{Ending, LineCursors, LineRead, line_at, line_end, names_carried};
-use refusals::{FRAME, LINE, NAME, PARAMETER};
+use read_text_line::{LineCursors, line_at, line_end, names_carried};
+use refusals::{Fault, Refusal};
 use schema::{component, component_number};
 use source::settled;
 
-// A BEGIN where nothing is open.
-fn begin_opens(edition: Edition, mode: usize, s: &[u8], l: LineCursors) -> Opening
+// A BEGIN where nothing is open: the cursor of the name of the calendar that it begins.
+fn begin_opens(edition: Edition, mode: usize, s: &[u8], l: LineCursors) -> Result<usize, Fault>
     ensures { OpeningIs (PlaceOf mode s.now l) mode s.now
         (begins_outer edition mode s.now l) result }
 {
-    let good = is_component_name(mode, s, l.value);
-    if good {
-        let n = component_number(mode, s, l.value);
-        if n == component::VCALENDAR {
-            let bare = no_params(mode, s, l.parameters);
-            if bare {
-                return Opening::Begins(l.value);
-            }
-            let c = parameter_cursor(mode, s, l.parameters, 0);
-            return Opening::Faulty(PARAMETER, c);
-        }
-        return Opening::Faulty(FRAME, l.name);
+    if !is_component_name(mode, s, l.value) {
+        return Err(Refusal::Name.at(l.name));
     }
-    Opening::Faulty(NAME, l.name)
+    let n = component_number(mode, s, l.value);
+    if n == component::VCALENDAR {
+        if no_params(mode, s, l.parameters) {
+            return Ok(l.value);
+        }
+        let c = parameter_cursor(mode, s, l.parameters, 0);
+        return Err(Refusal::Parameter.at(c));
+    }
+    Err(Refusal::Frame.at(l.name))
 }
 
-// A content line where nothing is open.
-fn content_opens(edition: Edition, mode: usize, s: &[u8], l: LineCursors) -> Opening
+// A content line where nothing is open: the cursor of the name of the calendar that it begins.
+fn content_opens(edition: Edition, mode: usize, s: &[u8], l: LineCursors) -> Result<usize, Fault>
     requires { (l.name ≤ length s.now) × Parts mode s.now l × (cuts mode ≡ true) }
     ensures { OpeningIs (PlaceOf mode s.now l) mode s.now
         (move_by (decoded_line edition (named mode s.now l)) []) result }
 {
     let at = l.name;
     let e = l.parameters;
-    let good = names_carried(mode, s, at, e);
-    if good {
-        let begin = is_word_any_case(mode, &s[..e], at, b"BEGIN");
-        if begin {
-            return begin_opens(edition, mode, s, l);
-        }
-        return Opening::Faulty(FRAME, l.name);
+    if !names_carried(mode, s, at, e) {
+        return Err(Refusal::Name.at(l.name));
     }
-    Opening::Faulty(NAME, l.name)
+    let begin = is_word_any_case(mode, &s[..e], at, b"BEGIN");
+    if begin {
+        return begin_opens(edition, mode, s, l);
+    }
+    Err(Refusal::Frame.at(l.name))
 }
 
-// A line where nothing is open.
-fn line_opens(edition: Edition, mode: usize, s: &[u8], at: usize) -> Opening
+// A line where nothing is open: the cursor of the name of the calendar that it begins.
+fn line_opens(edition: Edition, mode: usize, s: &[u8], at: usize) -> Result<usize, Fault>
     requires { (at ≤ length s.now) × (cuts mode ≡ true) }
     ensures { OpeningIs (OffsetAt mode s.now at) mode s.now
         (move edition (rest mode s.now at) []) result }
 {
-    let LineRead::Line(l) = line_at(mode, s, at) else {
-        return Opening::Faulty(LINE, at);
+    let Some(l) = line_at(mode, s, at) else {
+        return Err(Refusal::Line.at(at));
     };
     content_opens(edition, mode, s, l)
 }
 
-// A calendar, from its BEGIN on.
-fn calendar(edition: Edition, mode: usize, s: &[u8], at: usize) -> Step
+// A calendar, from its BEGIN on: the place behind it.
+fn calendar(edition: Edition, mode: usize, s: &[u8], at: usize) -> Result<usize, Fault>
     requires { Ready mode s.now at × (at < length s.now) }
     ensures { Outer edition mode s.now at result }
 {
-    let Ending::Whole(e, next) = line_end(mode, s, at) else {
-        return Step::Failed(LINE, at);
+    let Some(ending) = line_end(mode, s, at) else {
+        return Err(Refusal::Line.at(at));
     };
-    match line_opens(edition, mode, &s[..e], at) {
-        Opening::Begins(v) => body(
-            edition,
-            mode,
-            s,
-            next,
-            component::VCALENDAR,
-            &s[..e],
-            v,
-            component::BELOW,
-            false,
-        ),
-        Opening::Faulty(r, p) => Step::Failed(r, p),
-    }
+    let v = line_opens(edition, mode, &s[..ending.end], at)?;
+    body(
+        edition,
+        mode,
+        s,
+        ending.next,
+        component::VCALENDAR,
+        &s[..ending.end],
+        v,
+        component::BELOW,
+        false,
+    )
 }
 
 // The check of an unfolded text.
-pub fn check(edition: Edition, mode: usize, s: &[u8]) -> Checked
+pub fn check(edition: Edition, mode: usize, s: &[u8]) -> Result<(), Fault>
     requires { cuts mode ≡ true }
     ensures { Checks edition mode s.now result }
 {
     let start = settled(mode, s, 0);
     if s.len() <= start {
-        return Checked::Refused(FRAME, 0);
+        return Err(Refusal::Frame.at(0));
     }
     let mut at = start;
     while at < s.len() {
-        match calendar(edition, mode, s, at) {
-            Step::Closed(next) => {
-                at = next;
-            }
-            Step::Failed(n, p) => {
-                return Checked::Refused(n, p);
-            }
-        }
+        let next = calendar(edition, mode, s, at)?;
+        at = next;
     }
-    Checked::Fine
+    Ok(())
 }

@@ -10,11 +10,11 @@ ghost use Rattle.read_text_line.specs.Ready.{Ready};
 ghost use Rattle.read_text.specs.Turns.{Turned, Body};
 
 use crate::line::line_kind;
-use crate::{Kind, Step, Turn};
+use crate::{Kind, Turn};
 use edition::Edition;
-use read_text_line::{Ending, line_end};
-use refusals::{COUNT, FRAME, LINE};
-use schema::{action, bump, complete_counts, method_for, property};
+use read_text_line::line_end;
+use refusals::{Fault, Refusal};
+use schema::{Action, bump, complete_counts, method_for, property};
 
 // The line at a place in the component of the number `k`, whose name stands in `name` from `v` on; `left`, the levels that are left in it;
 // `inner`, whether a subcomponent has come.
@@ -34,19 +34,23 @@ fn next_line(
         × (at < length s.now) }
     ensures { Turned edition (upper (rest mode name.now v)) (ltb 0 left) inner mode s.now at result }
 {
-    let Ending::Whole(e, next) = line_end(mode, s, at) else {
+    let Some(ending) = line_end(mode, s, at) else {
         return Turn {
-            kind: Kind::Faulty(LINE, at),
+            kind: Err(Refusal::Line.at(at)),
             end: s.len(),
             next: s.len(),
         };
     };
-    let kind = line_kind(edition, k, name, v, left, inner, mode, &s[..e], at);
-    Turn { kind, end: e, next }
+    let kind = line_kind(edition, k, name, v, left, inner, mode, &s[..ending.end], at);
+    Turn {
+        kind,
+        end: ending.end,
+        next: ending.next,
+    }
 }
 
-// The number of ACTION's word behind a property of the number `p`.
-fn action_after(p: usize, a: usize, last: usize) -> usize
+// The action that ACTION names behind a property of the number `p`.
+fn action_after(p: usize, a: Option<Action>, last: Option<Action>) -> Option<Action>
     ensures { result ≡ pick (eqb p ACTION) a last }
 {
     if p == property::ACTION {
@@ -56,7 +60,7 @@ fn action_after(p: usize, a: usize, last: usize) -> usize
 }
 
 // The component of the number `k`, whose name stands in `name` from `v` on, from the line behind its BEGIN on; `left`, the levels that are left in it;
-// `method`, whether the calendar round it has METHOD.
+// `method`, whether the calendar round it has METHOD. The place behind it.
 pub fn body(
     edition: Edition,
     mode: usize,
@@ -67,22 +71,21 @@ pub fn body(
     v: usize,
     left: usize,
     method: bool,
-) -> Step
+) -> Result<usize, Fault>
     requires { Ready mode s.now from × (k ≡ place_of (upper (rest mode name.now v)) component_names) }
     ensures { Body edition (upper (rest mode name.now v)) left method mode s.now from result }
 {
     let mut at = from;
     // One for each known property.
     let mut counts = [0u8; 46];
-    let mut action = action::NONE;
+    let mut action = None;
     let mut inner = false;
     while at < s.len() {
         let l = next_line(edition, k, name, v, left, inner, mode, s, at);
-        let kind = l.kind;
-        match kind {
+        match l.kind? {
             Kind::Starts(n, w) => {
                 let inside = method_for(k, counts, method);
-                match body(
+                let next = body(
                     edition,
                     mode,
                     s,
@@ -92,20 +95,16 @@ pub fn body(
                     w,
                     left - 1,
                     inside,
-                ) {
-                    Step::Closed(next) => {
-                        inner = true;
-                        at = next;
-                    }
-                    Step::Failed(r, p) => return Step::Failed(r, p),
-                }
+                )?;
+                inner = true;
+                at = next;
             }
             Kind::Stops => {
                 let complete = complete_counts(k, counts, action, inner, method);
                 if complete {
-                    return Step::Closed(l.next);
+                    return Ok(l.next);
                 }
-                return Step::Failed(COUNT, at);
+                return Err(Refusal::Count.at(at));
             }
             Kind::Holds(p, a) => {
                 let more = bump(counts, p);
@@ -113,8 +112,7 @@ pub fn body(
                 action = action_after(p, a, action);
                 at = l.next;
             }
-            Kind::Faulty(r, p) => return Step::Failed(r, p),
         }
     }
-    Step::Failed(FRAME, s.len())
+    Err(Refusal::Frame.at(s.len()))
 }

@@ -8,42 +8,22 @@ mod named;
 mod places;
 
 pub use calendars::check;
+use refusals::Fault;
+use schema::Action;
 
-// What a line is in an open component: the beginning of the component of a number, whose name stands at a cursor; the component's end; a property of a number, with the number of
-// ACTION's word where it is ACTION; or a refusal of a number, and the cursor of its place.
-#[derive(Clone, Copy)]
+// What a line is in an open component: the beginning of the component of a number, whose name stands at a cursor; the component's end; a property of a number, with the action
+// that it names where it is ACTION.
+#[derive(Clone, Copy, Debug, PartialEq, Eq)]
 pub enum Kind {
     Starts(usize, usize),
     Stops,
-    Holds(usize, usize),
-    Faulty(u8, usize),
+    Holds(usize, Option<Action>),
 }
 
-// A line's kind, the place of its end, and that behind the line.
-#[derive(Clone, Copy)]
+// A line's kind, or its refusal; the place of its end, and that behind the line.
+#[derive(Clone, Copy, Debug, PartialEq, Eq)]
 pub struct Turn {
-    pub kind: Kind,
+    pub kind: Result<Kind, Fault>,
     pub end: usize,
     pub next: usize,
-}
-
-// A component was closed, and the text goes on at a place; or a refusal and its place.
-#[derive(Clone, Copy)]
-pub enum Step {
-    Closed(usize),
-    Failed(u8, usize),
-}
-
-// The answer: the text is fine; or a refusal and its place.
-#[derive(Clone, Copy)]
-pub enum Checked {
-    Fine,
-    Refused(u8, usize),
-}
-
-// A line where nothing is open: it begins a calendar, whose name stands at a cursor; or a refusal of a number, and the cursor of its place.
-#[derive(Clone, Copy)]
-pub enum Opening {
-    Begins(usize),
-    Faulty(u8, usize),
 }

@@ -13,7 +13,9 @@ pub fn parameter_cursor(mode: usize, s: &[u8], e: usize, i: usize) -> usize
     let mut c = e;
     let mut left = i;
     while 0 < left {
-        let a = next_param(mode, s, c);
+        let Ok(Some(a)) = next_param(mode, s, c) else {
+            return c;
+        };
         c = a.next;
         left -= 1;
     }

@@ -3,8 +3,7 @@
 --     ContentLine, RawParameter, ParamValue    a line as its grammar takes it apart, names and values as they stand
 --     content_line     the line that these bytes are; none exactly where the line is against the grammar (refusal 4)
 --     is_content_line  whether such a thing is one that the grammar has
-use Rattle.std.specs.Prelude.{Bool, true, false, List, [], ◌∷◌, ℕ, eqb}
-use Rattle.std.proofs.Math.Option.{Option, none}
+use Rattle.std.specs.Prelude.{Bool, true, false, List, [], ◌∷◌, ℕ, eqb, Option, None}
 use Rattle.octets.specs.Pick.{pick, ◌and◌, ◌or◌}
 use Rattle.octets.specs.Scan.{all_of}
 use Rattle.octets.specs.Class.{is_name_char}
@@ -104,9 +103,9 @@ next_param s = after_byte 59 s param One.none
 
 -- ":" value, behind a name and its parameters
 unfoldable pub with_value : All RawParameter → List ℕ → Option ContentLine
-with_value (ok ps r) n = after_byte 58 r (λ v. provided (all_of is_value_char v) (record { name = n; parameters = ps; value = v })) none
-with_value (no r) n = none
+with_value (ok ps r) n = after_byte 58 r (λ v. provided (all_of is_value_char v) (record { name = n; parameters = ps; value = v })) None
+with_value (no r) n = None
 
 -- contentline = name *(";" param ) ":" value CRLF
 unfoldable pub content_line : List ℕ → Option ContentLine
-content_line s = pick (is_empty (run_of is_name_char s)) none (with_value (many next_param (after_run is_name_char s)) (run_of is_name_char s))
+content_line s = pick (is_empty (run_of is_name_char s)) None (with_value (many next_param (after_run is_name_char s)) (run_of is_name_char s))

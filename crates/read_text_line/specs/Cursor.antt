@@ -1,9 +1,10 @@
 -- Parts of a content line read through a cursor: what the readers answer, as contracts. `rest m s c` is what stands from the cursor c on.
 --     Onward m s c r        the cursor r is at or behind c, within bounds, and reached from c by whole steps
 --     RunEnds p m s c r     the run of characters that pass p, from c on, ends at r;   in_line, char_of: its tests, `passing` its rules
---     ItemAt p m s c ..     what p reads from c on: no item, an item and the cursor behind it, or a fault
+--     ItemAt p m s c ..     what p reads from c on: no item, an item and the cursor behind it, or a fault;   OnItem: of an item that is there
+--     there r               an item that has to be there
 --     values_at, params_at  the values of a parameter from its first on, the parameters of a line, up to the first that is none
-use Rattle.std.specs.Prelude.{◌≡◌, Bool, true, false, List, [], ◌∷◌, ℕ, ◌*◌, max, ◌≤◌, eqb, length}
+use Rattle.std.specs.Prelude.{◌≡◌, Bool, true, false, List, [], ◌∷◌, ℕ, ◌*◌, max, ◌≤◌, eqb, length, Option, None, Some, Result, Ok, Err}
 use Rattle.octets.specs.Pick.{pick}
 use Rattle.octets.specs.Runs.{after_run}
 use Rattle.octets.specs.Many.{One, got, bad}
@@ -12,6 +13,7 @@ use Rattle.read_text_line.specs.ContentLine.{ParamValue, RawParameter, is_q_safe
 use Rattle.read_text_line.specs.Items.{items}
 use Rattle.read_text_line.specs.declared.Chars.{Chars}
 use Rattle.read_text_line.specs.declared.Chars.TheVariants.{Safe, Quoted, Valued}
+use Rattle.read_text_line.specs.declared.Malformed.{Malformed}
 
 -- ---- cursors
 
@@ -36,18 +38,37 @@ pub record RunEnds (p : ℕ → Bool) (m : ℕ) (s : List ℕ) (c r : ℕ) : Typ
   pub left : rest m s r ≡ after_run p (rest m s c)
   pub to : Onward m s c r
 
+-- up to the cursor behind what is there
+abbrev pub OnwardTo : ℕ → List ℕ → ℕ → Result ℕ Malformed → Type 0
+OnwardTo m s c (Ok next) = Onward m s c next
+OnwardTo m s c (Err e) = Unit {0}
+
 -- ---- an item at a cursor
 
-abbrev pub one_at : {A : Type 0} → Bool → Bool → A → List ℕ → List ℕ → One A
-one_at false ok a r f = One.none
-one_at true true a r f = got a r
-one_at true false a r f = bad f
+-- by the cursors v of its parts: the item that stands there, and what is left behind it
+abbrev pub one_at : {C A : Type 0} → (C → A) → (C → List ℕ) → Result (Option C) Malformed → List ℕ → One A
+one_at item left (Ok (Some v)) f = got (item v) (left v)
+one_at item left (Ok None) f = One.none
+one_at item left (Err e) f = bad f
 
--- there: an item or a fault;   ok: no fault
-pub record ItemAt {A : Type 0} (p : List ℕ → One A) (m : ℕ) (s : List ℕ) (c : ℕ) (there ok : Bool) (a : A) (next : ℕ) : Type 0 where
+abbrev pub OnItem : {C : Type 0} → Result (Option C) Malformed → (C → Type 0) → Type 0
+OnItem (Ok (Some v)) P = P v
+OnItem (Ok None) P = Unit {0}
+OnItem (Err e) P = Unit {0}
+
+pub record ItemAt {C A : Type 0} (p : List ℕ → One A) (m : ℕ) (s : List ℕ) (c : ℕ) (item : C → A) (behind : C → ℕ) (r : Result (Option C) Malformed) : Type 0 where
   pub fault : List ℕ
-  pub is : p (rest m s c) ≡ one_at there ok a (rest m s next) fault
-  pub to : Onward m s c next
+  pub is : p (rest m s c) ≡ one_at item (λ (v : C). rest m s (behind v)) r fault
+  pub to : OnItem r (λ (v : C). Onward m s c (behind v))
+
+abbrev pub there : {C : Type 0} → Result C Malformed → Result (Option C) Malformed
+there (Ok v) = Ok (Some v)
+there (Err e) = Err e
+
+-- an item that ends at a cursor
+abbrev pub one_to : {A : Type 0} → ℕ → List ℕ → A → Result ℕ Malformed → List ℕ → One A
+one_to m s a (Ok next) f = got a (rest m s next)
+one_to m s a (Err e) f = bad f
 
 -- ---- all values of a parameter, all parameters of a line
 

@@ -2,9 +2,7 @@
 --     read_line ed s     the line that these bytes are in an edition
 --     values_in, params_in parameters and their values, read through a cursor
 --     write_line ed l    a line written in an edition
-use Rattle.std.specs.Prelude.{List, map, ℕ}
-use Rattle.std.proofs.Math.Option
-use Rattle.std.proofs.Math.Option.{Option}
+use Rattle.std.specs.Prelude.{List, map, ℕ, Option, option_map}
 use Rattle.edition.specs.Edition.{decode, encode}
 use Rattle.edition.specs.declared.Edition.{Edition}
 use Rattle.read_text_line.specs.ContentLine.{ParamValue, RawParameter, ContentLine, content_line}
@@ -23,7 +21,7 @@ abbrev pub decoded_line : Edition → ContentLine → ContentLine
 decoded_line ed l = record { name = l.name; parameters = map (decoded_parameter ed) l.parameters; value = l.value }
 
 abbrev pub read_line : Edition → List ℕ → Option ContentLine
-read_line ed s = Option.map (decoded_line ed) (content_line s)
+read_line ed s = option_map (decoded_line ed) (content_line s)
 
 -- by cursors: the values of a parameter from its first on, the parameters of a line
 abbrev pub values_in : Edition → ℕ → List ℕ → ℕ → List ParamValue

@@ -1,6 +1,5 @@
 -- Content lines that are read, refused and written, names, and a text with its folds, by computation.
-use Rattle.std.specs.Prelude.{◌≡◌, refl, true, false, List, [], ◌∷◌, ◌++◌, map, ℕ}
-use Rattle.std.proofs.Math.Option.{some}
+use Rattle.std.specs.Prelude.{◌≡◌, refl, true, false, List, [], ◌∷◌, ◌++◌, map, ℕ, Some}
 use Rattle.octets.specs.Ascii.{ascii}
 use Rattle.octets.specs.Reading.{is_read}
 use Rattle.read_text_line.specs.ContentLine.{ParamValue, RawParameter, ContentLine, next_param, content_line, is_content_line}
@@ -47,7 +46,7 @@ read =
     ∷ line (ascii "-A") (parameter (ascii "1A") (bare (ascii "x") ∷ []) ∷ []) []
     ∷ []
 
-pub lines_read : map content_line texts ≡ map some read
+pub lines_read : map content_line texts ≡ map Some read
 unfolding lines_compute
 lines_read = refl
 

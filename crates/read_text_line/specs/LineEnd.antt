@@ -2,13 +2,12 @@
 --     index m s c       how many bytes stand before the cursor c
 --     lines_at m s at   the lines from a cursor on
 --     EndsLine          the contract of a reader of one line;   LineEnds: it ends at the cursor e, and the next begins at the cursor n
-use Rattle.std.specs.Prelude.{◌≡◌, true, List, [], ◌∷◌, ℕ, ◌-◌, ◌≤◌, length, take}
+use Rattle.std.specs.Prelude.{◌≡◌, true, List, [], ◌∷◌, ℕ, ◌-◌, ◌≤◌, length, take, Option, None, Some}
 use Rattle.octets.specs.Append.{◌⊕◌}
 use Rattle.folding.specs.Lines.{Line, lines_from, to_break}
 use Rattle.source.specs.Source.{rest, cuts}
 use Rattle.read_text_line.specs.Cursor.{Onward}
-use Rattle.read_text_line.specs.declared.Ending.{Ending}
-use Rattle.read_text_line.specs.declared.Ending.TheVariants.{Whole, Loose}
+use Rattle.read_text_line.specs.declared.LineEnding.{LineEnding}
 
 unfoldable pub index : ℕ → List ℕ → ℕ → ℕ
 index m s c = length (rest m s 0) - length (rest m s c)
@@ -24,6 +23,6 @@ pub record LineEnds (m : ℕ) (s : List ℕ) (c e n : ℕ) : Type 0 where
   pub first : cuts m ≡ true → to_break (rest m s c) ≡ length (rest m (take e s) c)
   pub some_byte : cuts m ≡ true → rest m s n ≡ [] → length s ≤ n
 
-abbrev pub EndsLine : ℕ → List ℕ → ℕ → Ending → Type 0
-EndsLine m s c (Whole e n) = LineEnds m s c e n
-EndsLine m s c Loose = to_break (rest m s c) ≡ length (rest m s c)
+abbrev pub EndsLine : ℕ → List ℕ → ℕ → Option LineEnding → Type 0
+EndsLine m s c (Some w) = LineEnds m s c w.end w.next
+EndsLine m s c None = to_break (rest m s c) ≡ length (rest m s c)

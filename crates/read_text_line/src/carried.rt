@@ -21,10 +21,7 @@ fn starts_off_name(mode: usize, s: &[u8], at: usize) -> bool
     ensures { result ≡ starts_off_name (rest mode s.now at) }
 {
     let n = unit(mode, s, at);
-    if is_digit(n.u) {
-        return true;
-    }
-    n.u == HYPHEN
+    is_digit(n.u) || n.u == HYPHEN
 }
 
 // `XML` is there, in any case.
@@ -50,15 +47,7 @@ fn starts_xml(mode: usize, s: &[u8], at: usize) -> bool
 pub fn is_carried_name(mode: usize, s: &[u8], at: usize) -> bool
     ensures { result ≡ is_carried_name (rest mode s.now at) }
 {
-    let off = starts_off_name(mode, s, at);
-    if off {
-        return false;
-    }
-    let xml = starts_xml(mode, s, at);
-    if xml {
-        return false;
-    }
-    true
+    !starts_off_name(mode, s, at) && !starts_xml(mode, s, at)
 }
 
 // The names of all parameters from the cursor on can be carried.
@@ -66,23 +55,13 @@ fn params_carried(mode: usize, s: &[u8], at: usize) -> bool
     ensures { result ≡ every carries_name (params_at mode s.now at) }
 {
     let mut c = at;
-    loop {
-        let p = next_param(mode, s, c);
-        if p.there {
-            if p.ok {
-                let good = is_carried_name(mode, s, p.name);
-                if good {
-                    c = p.next;
-                } else {
-                    return false;
-                }
-            } else {
-                return true;
-            }
-        } else {
-            return true;
+    while let Ok(Some(p)) = next_param(mode, s, c) {
+        if !is_carried_name(mode, s, p.name) {
+            return false;
         }
+        c = p.next;
     }
+    true
 }
 
 // The name of the line, and those of its parameters, which stand from `e` on, can be carried.
@@ -91,9 +70,5 @@ pub fn names_carried(mode: usize, s: &[u8], at: usize, e: usize) -> bool
         ≡ (is_carried_name (run_of is_name_char (rest mode s.now at))
         and every carries_name (params_at mode s.now e)) }
 {
-    let good = is_carried_name(mode, s, at);
-    if good {
-        return params_carried(mode, s, e);
-    }
-    false
+    is_carried_name(mode, s, at) && params_carried(mode, s, e)
 }

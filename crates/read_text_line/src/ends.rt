@@ -1,14 +1,14 @@
 // Where a line ends. See specs/LineEnd.antt.
 ghost use Rattle.read_text_line.specs.LineEnd.{EndsLine};
 
-use crate::Ending;
+use crate::LineEnding;
 use octets::find::find_return;
 use octets::unit::{CR, END, LF};
 use octets::wide;
 use source::{settled, unit};
 
-// The line at `from`, over bytes as they stand.
-fn line_end_plain(s: &[u8], from: usize) -> Ending
+// Where the line at `from` ends, over bytes as they stand.
+fn line_end_plain(s: &[u8], from: usize) -> Option<LineEnding>
     ensures { EndsLine 0 s.now from result }
 {
     let mut c = from;
@@ -17,19 +17,22 @@ fn line_end_plain(s: &[u8], from: usize) -> Ending
         if 2 <= s.len() - c {
             let u = wide(s[c + 1]);
             if u == LF {
-                return Ending::Whole(c, c + 2);
+                return Some(LineEnding {
+                    end: c,
+                    next: c + 2,
+                });
             } else {
                 c += 1;
             }
         } else {
-            return Ending::Loose;
+            return None;
         }
     }
-    Ending::Loose
+    None
 }
 
-// The line at `from`.
-pub fn line_end(mode: usize, s: &[u8], from: usize) -> Ending
+// Where the line at `from` ends; none where no CRLF follows it.
+pub fn line_end(mode: usize, s: &[u8], from: usize) -> Option<LineEnding>
     ensures { EndsLine mode s.now from result }
 {
     if mode == 0 {
@@ -39,13 +42,13 @@ pub fn line_end(mode: usize, s: &[u8], from: usize) -> Ending
     loop {
         let n = unit(mode, s, c);
         if n.u == END {
-            return Ending::Loose;
+            return None;
         } else {
             if n.u == CR {
                 let k = unit(mode, s, n.next);
                 if k.u == LF {
                     let next = settled(mode, s, k.next);
-                    return Ending::Whole(c, next);
+                    return Some(LineEnding { end: c, next });
                 } else {
                     c = n.next;
                 }

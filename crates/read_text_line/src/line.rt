@@ -3,52 +3,41 @@ ghost use Rattle.read_text_line.specs.Line.{LineAt, TailAt};
 
 use crate::param::{next_params, no_name};
 use crate::runs::run_end;
-use crate::{AllRead, Chars, LineCursors, LineRead};
+use crate::{Chars, LineCursors};
 use names::name_end;
 use octets::unit::{COLON, END};
 use source::unit;
 
 // A colon and the value, behind the parameters: the cursor of the value.
-fn value_at(mode: usize, s: &[u8], at: usize) -> AllRead
+fn value_at(mode: usize, s: &[u8], at: usize) -> Option<usize>
     ensures { TailAt mode s.now at result }
 {
     let n = unit(mode, s, at);
     if n.u == COLON {
-        let v = n.next;
-        let to = run_end(Chars::Valued, mode, s, v);
+        let to = run_end(Chars::Valued, mode, s, n.next);
         let z = unit(mode, s, to);
         if z.u == END {
-            return AllRead { ok: true, next: v };
+            return Some(n.next);
         }
-        return AllRead { ok: false, next: v };
     }
-    AllRead {
-        ok: false,
-        next: at,
-    }
+    None
 }
 
-// The content line that stands from the cursor on.
-pub fn line_at(mode: usize, s: &[u8], at: usize) -> LineRead
+// The content line that stands from the cursor on, if it is one.
+pub fn line_at(mode: usize, s: &[u8], at: usize) -> Option<LineCursors>
     ensures { LineAt mode s.now at result }
 {
-    let none = no_name(mode, s, at);
-    if none {
-        return LineRead::Bad;
+    if no_name(mode, s, at) {
+        return None;
     }
-    let e = name_end(mode, s, at);
-    let p = next_params(mode, s, e);
-    if p.ok {
-        let v = value_at(mode, s, p.next);
-        if v.ok {
-            let l = LineCursors {
-                name: at,
-                parameters: e,
-                value: v.next,
-            };
-            return LineRead::Line(l);
-        }
-        return LineRead::Bad;
-    }
-    LineRead::Bad
+    let parameters = name_end(mode, s, at);
+    let Ok(next) = next_params(mode, s, parameters) else {
+        return None;
+    };
+    let value = value_at(mode, s, next)?;
+    Some(LineCursors {
+        name: at,
+        parameters,
+        value,
+    })
 }

@@ -11,73 +11,32 @@ use source::{plain_unit, unit};
 fn is_break(u: usize) -> bool
     ensures { result ≡ is_line_break u }
 {
-    if u == CR {
-        return true;
-    }
-    u == LF
+    u == CR || u == LF
 }
 
 // `"`, `;`, `:`, `,`
 fn is_mark(u: usize) -> bool
     ensures { result ≡ (eqb u 34 or eqb u 59 or eqb u 58 or eqb u 44) }
 {
-    let quote = u == QUOTE;
-    if quote {
-        return true;
-    }
-    if u == SEMICOLON {
-        return true;
-    }
-    if u == COLON {
-        return true;
-    }
-    u == COMMA
+    u == QUOTE || u == SEMICOLON || u == COLON || u == COMMA
 }
 
 fn is_safe(u: usize) -> bool
     ensures { result ≡ in_line is_safe_char u }
 {
-    if u == END {
-        return false;
-    }
-    let b = is_break(u);
-    if b {
-        return false;
-    }
-    let m = is_mark(u);
-    if m {
-        return false;
-    }
-    true
+    u != END && !is_break(u) && !is_mark(u)
 }
 
 fn is_qsafe(u: usize) -> bool
     ensures { result ≡ in_line is_q_safe_char u }
 {
-    if u == END {
-        return false;
-    }
-    let b = is_break(u);
-    if b {
-        return false;
-    }
-    if u == QUOTE {
-        return false;
-    }
-    true
+    u != END && !is_break(u) && u != QUOTE
 }
 
 fn is_valued(u: usize) -> bool
     ensures { result ≡ in_line is_value_char u }
 {
-    if u == END {
-        return false;
-    }
-    let b = is_break(u);
-    if b {
-        return false;
-    }
-    true
+    u != END && !is_break(u)
 }
 
 fn is_in(k: Chars, u: usize) -> bool

@@ -1,6 +1,6 @@
 -- Names in rounds: the places of some of them, in an order in which the names rise (crate distinct, specs/Rising.antt).
 --     Passed m s e k c left    the first k names from e on, up to c, are different from each other and from the first `left` behind them
---     Stands P n p             the place p is one of the first n of P;   Held: so is that of the name at a cursor
+--     Stands P n p             the place p is one of the first n of P;   Held: so is that of the name at a cursor, HeldIf: if there is one
 --     Walked                   the same as Passed, but of the names that stand in P only that: Holding
 --     Found m s P n c left r   the names from c on that stand there
 --     Behind, Before           the name at p goes behind the last of the first i of them, before that of the number i
@@ -9,14 +9,14 @@
 --     Passes m s c left r      so r.count names more have passed
 --     EndsAt m s e k c         no name is there behind those, or one that is one of them
 -- Stands, Behind, Before, Apart and EndsAt where a test holds.
-use Rattle.std.specs.Prelude.{◌≡◌, Bool, true, false, List, [], ℕ, ◌+◌, ◌-◌, ◌≤◌, ◌<◌, get_or, take}
+use Rattle.std.specs.Prelude.{◌≡◌, Bool, true, false, List, [], ℕ, ◌+◌, ◌-◌, ◌≤◌, ◌<◌, get_or, take, Option, None, Some}
 use Rattle.octets.specs.Words.{same, is_one_of}
 use Rattle.distinct.specs.Order.{order}
 use Rattle.distinct.specs.Again.{first_again}
 use Rattle.read_text_line.specs.Cursor.{params_at}
 use Rattle.read_text_parameters.specs.Comparing.{names_of, Comparing}
 use Rattle.read_text_parameters.specs.Naming.{name_at, NameAt}
-use Rattle.read_text_parameters.specs.declared.named.NameRead.{NameRead}
+use Rattle.read_text_parameters.specs.declared.named.NameCursors.{NameCursors}
 use Rattle.read_text_parameters.specs.declared.rounds.Round.{Round}
 
 -- a name of the first k from a cursor on
@@ -41,9 +41,13 @@ pub record Standing (P : List ℕ) (n p : ℕ) : Type 0 where
 pub record Stands (P : List ℕ) (n p : ℕ) (t : Bool) : Type 0 where
   pub is : t ≡ true → Standing P n p
 
-pub record Held (m : ℕ) (s P : List ℕ) (n c : ℕ) (r : NameRead) : Type 0 where
-  pub named : NameAt m s c r
-  pub stands : r.there ≡ true → Standing P n r.name
+pub record Held (m : ℕ) (s P : List ℕ) (n c : ℕ) (a : NameCursors) : Type 0 where
+  pub named : NameAt m s c a
+  pub stands : Standing P n a.name
+
+abbrev pub HeldIf : ℕ → List ℕ → List ℕ → ℕ → ℕ → Option NameCursors → Type 0
+HeldIf m s P n c (Some a) = Held m s P n c a
+HeldIf m s P n c None = Unit {0}
 
 pub record Holding (m : ℕ) (s P : List ℕ) (n c : ℕ) (v : List ℕ) : Type 0 where
   pub number : ℕ

@@ -1,7 +1,6 @@
 -- A value of a parameter, by the parameter's number.
 --     read_by       one value of the parameter that has a given row;   is_value_by: whether it is one
-use Rattle.std.specs.Prelude.{Bool, not}
-use Rattle.std.proofs.Math.Option.{Option, none}
+use Rattle.std.specs.Prelude.{Bool, not, Option, None}
 use Rattle.octets.specs.Pick.{pick, ◌and◌}
 use Rattle.octets.specs.Reading.{is_read}
 use Rattle.calendar.specs.Calendar.{Value}
@@ -12,7 +11,7 @@ use Rattle.read_text_line.specs.Decoded.{decoded_value}
 use Rattle.text.specs.Parameters.{read_word}
 
 abbrev pub read_by : ParameterRow → ParamValue → Option Value
-read_by p v = pick (not v.quoted and p.quoted) none (read_word p.words p.type v.chars)
+read_by p v = pick (not v.quoted and p.quoted) None (read_word p.words p.type v.chars)
 
 abbrev pub is_value_by : ParameterRow → ParamValue → Bool
 is_value_by p v = is_read (read_by p v)

@@ -6,8 +6,7 @@
 --     behind_at        the type behind a parameter, if that is sound
 --     Notes, ended_by  what is noted of a parameter;   the answer where all are sound
 --     ParametersAt     the contract of the walk
-use Rattle.std.specs.Prelude.{◌≡◌, Bool, true, false, not, cond, List, [], ℕ, ◌+◌, eqb, ltb, take}
-use Rattle.std.proofs.Math.Option.{Option, none, some, map}
+use Rattle.std.specs.Prelude.{◌≡◌, Bool, true, false, not, cond, List, [], ℕ, ◌+◌, eqb, ltb, take, Option, None, Some, option_map, Result, Ok, Err}
 use Rattle.bits.specs.Masks.{has}
 use Rattle.octets.specs.Ascii.{ascii}
 use Rattle.octets.specs.Pick.{pick, ◌and◌, ◌or◌}
@@ -28,8 +27,8 @@ use Rattle.text.specs.Faults.{Where, parameter_name, value_start, is_encoding, f
 use Rattle.read_text_parameters.specs.Readable.{is_read_by}
 use Rattle.read_text_parameters.specs.Stating.{stated_at}
 use Rattle.read_text_parameters.specs.declared.walk.Noted.{Noted}
-use Rattle.read_text_parameters.specs.declared.ParametersRead.{ParametersRead}
-use Rattle.read_text_parameters.specs.declared.ParametersRead.TheVariants.{Good, Faulty, Unencoded}
+use Rattle.read_text_parameters.specs.declared.ParameterFault.{ParameterFault}
+use Rattle.read_text_parameters.specs.declared.ParameterFault.TheVariants.{Faulty, Unencoded}
 
 -- 20 is VALUE's, 19 an unrecognised one's
 unfoldable pub number_of : List ℕ → ℕ
@@ -62,8 +61,8 @@ abbrev pub fits_by : Row → ℕ → ℕ → List ParamValue → Bool
 fits_by row t q vs = permits_at row t q and is_read_by (parameter_at q) vs and encodes_by t q vs
 
 abbrev pub is_binary_at : Option ℕ → Bool
-is_binary_at none = false
-is_binary_at (some t) = eqb t 0
+is_binary_at None = false
+is_binary_at (Some t) = eqb t 0
 
 unfoldable pub fits_at : Row → Option ℕ → RawParameter → Bool
 fits_at row t r =
@@ -74,11 +73,11 @@ fits_at row t r =
 -- ---- the type behind it: of the values of a parameter of the number q, where the line states the type o, and t is the type so far
 
 abbrev pub behind_at : Row → Option ℕ → ℕ → ℕ → List ParamValue → Option ℕ
-behind_at row o t q vs = pick (eqb q 20) (map type_place (type_in vs)) (provided (fits_by row (type_for q o) q vs) t)
+behind_at row o t q vs = pick (eqb q 20) (option_map type_place (type_in vs)) (provided (fits_by row (type_for q o) q vs) t)
 
 -- what the line states, where rs are still to come: by the VALUE that has come, or by them
 abbrev pub stated_by : Noted → List RawParameter → Option ℕ
-stated_by n rs = pick (has n.seen 20) (some n.value_type) (stated_at n.value_type rs)
+stated_by n rs = pick (has n.seen 20) (Some n.value_type) (stated_at n.value_type rs)
 
 -- ---- the walk
 
@@ -93,18 +92,18 @@ pub record Notes (n : Noted) (q t : ℕ) (r : Noted) : Type 0 where
   pub typed : r.value_type ≡ t
 
 -- where all are sound
-abbrev pub ended_by : Noted → ParametersRead
-ended_by n = pick (eqb n.value_type 0) (pick (has n.seen 6) (Good n.value_type) Unencoded) (Good n.value_type)
+abbrev pub ended_by : Noted → Result ℕ ParameterFault
+ended_by n = pick (eqb n.value_type 0) (pick (has n.seen 6) (Ok n.value_type) (Err Unencoded)) (Ok n.value_type)
 
-abbrev pub where_of : ParametersRead → Option Where
-where_of (Good t) = none
-where_of (Faulty i) = some (parameter_name i)
-where_of Unencoded = some value_start
+abbrev pub where_of : Result ℕ ParameterFault → Option Where
+where_of (Ok t) = None
+where_of (Err (Faulty i)) = Some (parameter_name i)
+where_of (Err Unencoded) = Some value_start
 
 -- by the type that they state
 unfoldable pub fault_as : Row → Option ℕ → List RawParameter → Option Where
 fault_as row t rs = place_of_fault (first_faulty (fits_at row t) [] rs) (lacks_at t rs)
 
-pub record ParametersAt (row : Row) (rs : List RawParameter) (r : ParametersRead) : Type 0 where
+pub record ParametersAt (row : Row) (rs : List RawParameter) (r : Result ℕ ParameterFault) : Type 0 where
   pub fault : fault_as row (stated_at row.default rs) rs ≡ where_of r
-  pub typed : (t : ℕ) → r ≡ Good t → stated_at row.default rs ≡ some t
+  pub typed : (t : ℕ) → r ≡ Ok t → stated_at row.default rs ≡ Some t

@@ -16,14 +16,9 @@ pub fn is_base64(edition: Edition, mode: usize, s: &[u8], first: usize) -> bool
     requires { cuts mode ≡ true }
     ensures { result ≡ is_word (ascii "BASE64") (values_in edition mode s.now first) }
 {
-    let v = param_value(mode, s, first);
-    if v.ok {
-        let m = value_mode(edition, mode);
-        let base64 = is_named(m, s, v.from, v.to, b"BASE64");
-        if base64 {
-            return is_last(mode, s, v.next);
-        }
+    let Ok(v) = param_value(mode, s, first) else {
         return false;
-    }
-    false
+    };
+    let m = value_mode(edition, mode);
+    is_named(m, s, v.from, v.to, b"BASE64") && is_last(mode, s, v.next)
 }

@@ -22,17 +22,9 @@ pub use read::are_read;
 pub use stated::stated_type;
 pub use walk::read_parameters;
 
-// The type that a line states, by its number; or VALUE that names none.
-#[derive(Clone, Copy)]
-pub enum TypeRead {
-    Type(usize),
-    Bad,
-}
-
-// The parameters are good, and state the type of this number; or the parameter of this number is the leftmost faulty one; or BINARY has no ENCODING.
-#[derive(Clone, Copy)]
-pub enum ParametersRead {
-    Good(usize),
+// What is wrong with a line's parameters: the parameter of this number is the leftmost faulty one; or BINARY has no ENCODING.
+#[derive(Clone, Copy, Debug, PartialEq, Eq)]
+pub enum ParameterFault {
     Faulty(usize),
     Unencoded,
 }

@@ -11,7 +11,7 @@ ghost use Rattle.read_text_parameters.specs.Collecting.{Collected};
 ghost use Rattle.read_text_parameters.specs.Rounds.{EndsAt};
 
 use crate::rounds::pass_all;
-use distinct::{Kept, keep};
+use distinct::keep;
 use octets::unit::END;
 use octets::{smaller, upper_unit};
 use read_text_line::next_param;
@@ -58,50 +58,33 @@ pub fn stands_before(mode: usize, s: &[u8], e: usize, k: usize, name: usize, end
     let mut c = e;
     let mut left = k;
     while 0 < left {
-        let a = next_param(mode, s, c);
-        if a.there {
-            if a.ok {
-                let again = same_names(mode, s, name, end, a.name, a.end);
-                if again {
-                    return true;
-                }
-                c = a.next;
-                left -= 1;
-            } else {
-                return false;
-            }
-        } else {
+        let Ok(Some(a)) = next_param(mode, s, c) else {
             return false;
+        };
+        if same_names(mode, s, name, end, a.name, a.end) {
+            return true;
         }
+        c = a.next;
+        left -= 1;
     }
     false
 }
 
-// Collects the names from the cursor `e` on by their cursors.
-fn collect(mode: usize, s: &[u8], e: usize, from: &mut [u16], to: &mut [u16]) -> Kept
+// Collects the names from the cursor `e` on by their cursors: how many, where there is room for all.
+fn collect(mode: usize, s: &[u8], e: usize, from: &mut [u16], to: &mut [u16]) -> Option<usize>
     requires { cuts mode ≡ true }
     ensures { Collected mode s.now e from.new to.new result }
 {
     let mut c = e;
     let mut k = 0;
-    loop {
-        let a = next_param(mode, s, c);
-        if a.there {
-            if a.ok {
-                let kept = keep(from, to, k, a.name, a.end);
-                if kept {
-                    c = a.next;
-                    k += 1;
-                } else {
-                    return Kept { n: 0, all: false };
-                }
-            } else {
-                return Kept { n: k, all: true };
-            }
-        } else {
-            return Kept { n: k, all: true };
+    while let Ok(Some(a)) = next_param(mode, s, c) {
+        if !keep(from, to, k, a.name, a.end) {
+            return None;
         }
+        c = a.next;
+        k += 1;
     }
+    Some(k)
 }
 
 // The place of the first parameter from the cursor `e` on that comes again, their number where none does: each is compared with all before it.
@@ -111,23 +94,14 @@ fn first_compared(mode: usize, s: &[u8], e: usize) -> usize
 {
     let mut c = e;
     let mut k = 0;
-    loop {
-        let a = next_param(mode, s, c);
-        if a.there {
-            if a.ok {
-                let again = stands_before(mode, s, e, k, a.name, a.end);
-                if again {
-                    return k;
-                }
-                c = a.next;
-                k += 1;
-            } else {
-                return k;
-            }
-        } else {
+    while let Ok(Some(a)) = next_param(mode, s, c) {
+        if stands_before(mode, s, e, k, a.name, a.end) {
             return k;
         }
+        c = a.next;
+        k += 1;
     }
+    k
 }
 
 // The same by the names collected, where there is room for all of them: of a line of 65,535 bytes there is. Where there is not, it calls itself with no try left:
@@ -141,9 +115,8 @@ fn first_sorted(mode: usize, s: &[u8], e: usize, tries: usize) -> usize
     }
     let mut from = [0u16; 21846];
     let mut to = [0u16; 21846];
-    let kept = collect(mode, s, e, &mut from, &mut to);
-    if kept.all {
-        return distinct::first_again(mode, s, &from, &to, kept.n);
+    if let Some(count) = collect(mode, s, e, &mut from, &mut to) {
+        return distinct::first_again(mode, s, &from, &to, count);
     }
     first_sorted(mode, s, e, tries - 1)
 }
@@ -153,14 +126,10 @@ fn is_end(mode: usize, s: &[u8], e: usize, k: usize, c: usize) -> bool
     requires { cuts mode ≡ true }
     ensures { EndsAt mode s.now e k c result }
 {
-    let a = next_param(mode, s, c);
-    if a.there {
-        if a.ok {
-            return stands_before(mode, s, e, k, a.name, a.end);
-        }
+    let Ok(Some(a)) = next_param(mode, s, c) else {
         return true;
-    }
-    true
+    };
+    stands_before(mode, s, e, k, a.name, a.end)
 }
 
 // The same in rounds, with little room. That those end where none is there or one comes again is checked; else it calls itself with no try left.
@@ -173,8 +142,7 @@ fn first_in_rounds(mode: usize, s: &[u8], e: usize, tries: usize) -> usize
     }
     let mut places = [0u16; 2048];
     let r = pass_all(mode, s, e, &mut places);
-    let end = is_end(mode, s, e, r.count, r.next);
-    if end {
+    if is_end(mode, s, e, r.count, r.next) {
         return r.count;
     }
     first_in_rounds(mode, s, e, tries - 1)

@@ -21,11 +21,7 @@ fn has_amount(q: usize, mode: usize, s: &[u8], first: usize) -> bool
     requires { cuts mode ≡ true }
     ensures { result ≡ ((parameter_at q).listed or is_single (values_at mode s.now first)) }
 {
-    let listed = is_listed_parameter(q);
-    if listed {
-        return true;
-    }
-    is_single(mode, s, first)
+    is_listed_parameter(q) || is_single(mode, s, first)
 }
 
 // The values from the cursor `first` on are those of a parameter of the number `q`.
@@ -33,11 +29,7 @@ pub fn is_parameter(edition: Edition, q: usize, mode: usize, s: &[u8], first: us
     requires { cuts mode ≡ true }
     ensures { result ≡ is_read_by (parameter_at q) (values_in edition mode s.now first) }
 {
-    let amount = has_amount(q, mode, s, first);
-    if amount {
-        return are_values(edition, q, mode, s, first);
-    }
-    false
+    has_amount(q, mode, s, first) && are_values(edition, q, mode, s, first)
 }
 
 // A parameter is VALUE, or can be read.
@@ -66,21 +58,11 @@ pub fn are_read(edition: Edition, mode: usize, s: &[u8], e: usize) -> bool
     ensures { result ≡ is_read (read_parameters (params_in edition mode s.now e)) }
 {
     let mut c = e;
-    loop {
-        let a = next_param(mode, s, c);
-        if a.there {
-            if a.ok {
-                let good = is_readable(edition, mode, s, a.name, a.end, a.first);
-                if good {
-                    c = a.next;
-                } else {
-                    return false;
-                }
-            } else {
-                return true;
-            }
-        } else {
-            return true;
+    while let Ok(Some(a)) = next_param(mode, s, c) {
+        if !is_readable(edition, mode, s, a.name, a.end, a.first) {
+            return false;
         }
+        c = a.next;
     }
+    true
 }

@@ -4,10 +4,10 @@ ghost use Rattle.std.specs.Prelude.{◌≤◌};
 ghost use Rattle.distinct.specs.Rising.{Rising};
 ghost use Rattle.read_text_parameters.specs.Comparing.{Comparing};
 ghost use Rattle.read_text_parameters.specs.Naming.{name_at};
-ghost use Rattle.read_text_parameters.specs.Rounds.{Stands, Held, Found, Behind, Before, Apart, Absent};
+ghost use Rattle.read_text_parameters.specs.Rounds.{Stands, HeldIf, Found, Behind, Before, Apart, Absent};
 ghost use Rattle.read_text_parameters.specs.Rounds.{Passes};
 
-use crate::named::{NameRead, name_at};
+use crate::named::{NameCursors, name_at};
 use crate::order::compare_names;
 use crate::places::place_at;
 use crate::twice::put_round;
@@ -73,19 +73,14 @@ fn is_found(mode: usize, s: &[u8], places: &[u16], n: usize, p: usize) -> bool
 }
 
 // The name at the cursor `c`, if its place is one of the first `n`.
-fn held_at(mode: usize, s: &[u8], places: &[u16], n: usize, c: usize) -> NameRead
-    ensures { Held mode s.now places.now n c result }
+fn held_at(mode: usize, s: &[u8], places: &[u16], n: usize, c: usize) -> Option<NameCursors>
+    ensures { HeldIf mode s.now places.now n c result }
 {
-    let a = name_at(mode, s, c);
-    if a.there {
-        let found = is_found(mode, s, places, n, a.name);
-        return NameRead {
-            there: found,
-            name: a.name,
-            next: a.next,
-        };
+    let a = name_at(mode, s, c)?;
+    if is_found(mode, s, places, n, a.name) {
+        return Some(a);
     }
-    a
+    None
 }
 
 // The names from `from` on whose places are found, `left` of them at most; `left` is then how many more there may be.
@@ -97,18 +92,16 @@ fn found_end(mode: usize, s: &[u8], from: usize, left: usize, places: &[u16], n:
     let mut k = 0;
     let mut more = left;
     while 0 < more {
-        let a = held_at(mode, s, places, n, c);
-        if a.there {
-            c = a.next;
-            k += 1;
-            more -= 1;
-        } else {
+        let Some(a) = held_at(mode, s, places, n, c) else {
             return Round {
                 count: k,
                 next: c,
                 left: more,
             };
-        }
+        };
+        c = a.next;
+        k += 1;
+        more -= 1;
     }
     Round {
         count: k,
@@ -161,19 +154,15 @@ fn absent(mode: usize, s: &[u8], from: usize, left: usize, places: &[u16], n: us
     let mut c = from;
     let mut k = 0;
     while k < left {
-        let a = name_at(mode, s, c);
-        if a.there {
-            let i = find(mode, s, places, n, a.name);
-            let between = is_between(mode, s, places, n, i, a.name);
-            if between {
-                c = a.next;
-                k += 1;
-            } else {
-                return k;
-            }
-        } else {
+        let Some(a) = name_at(mode, s, c) else {
+            return k;
+        };
+        let i = find(mode, s, places, n, a.name);
+        if !is_between(mode, s, places, n, i, a.name) {
             return k;
         }
+        c = a.next;
+        k += 1;
     }
     k
 }

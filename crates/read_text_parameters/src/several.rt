@@ -22,14 +22,10 @@ pub fn is_last(mode: usize, s: &[u8], at: usize) -> bool
     requires { cuts mode ≡ true }
     ensures { result ≡ is_empty (items next_value (rest mode s.now at)) }
 {
-    let v = next_value(mode, s, at);
-    if v.there {
-        if v.ok {
-            return false;
-        }
+    let Ok(Some(v)) = next_value(mode, s, at) else {
         return true;
-    }
-    true
+    };
+    false
 }
 
 // There is one value.
@@ -37,11 +33,10 @@ pub fn is_single(mode: usize, s: &[u8], at: usize) -> bool
     requires { cuts mode ≡ true }
     ensures { result ≡ is_single (values_at mode s.now at) }
 {
-    let v = param_value(mode, s, at);
-    if v.ok {
-        return is_last(mode, s, v.next);
-    }
-    false
+    let Ok(v) = param_value(mode, s, at) else {
+        return false;
+    };
+    is_last(mode, s, v.next)
 }
 
 // The characters between two cursors are a value of the parameter of the number `q`.
@@ -68,23 +63,13 @@ fn are_later_values(edition: Edition, q: usize, mode: usize, s: &[u8], at: usize
     ensures { result ≡ every (is_value_in edition (parameter_at q)) (items next_value (rest mode s.now at)) }
 {
     let mut c = at;
-    loop {
-        let v = next_value(mode, s, c);
-        if v.there {
-            if v.ok {
-                let good = is_cut_value(edition, q, v.quoted, mode, s, v.from, v.to);
-                if good {
-                    c = v.next;
-                } else {
-                    return false;
-                }
-            } else {
-                return true;
-            }
-        } else {
-            return true;
+    while let Ok(Some(v)) = next_value(mode, s, c) {
+        if !is_cut_value(edition, q, v.quoted, mode, s, v.from, v.to) {
+            return false;
         }
+        c = v.next;
     }
+    true
 }
 
 // All are values of the parameter.
@@ -92,13 +77,9 @@ pub fn are_values(edition: Edition, q: usize, mode: usize, s: &[u8], at: usize) 
     requires { cuts mode ≡ true }
     ensures { result ≡ every (is_value_in edition (parameter_at q)) (values_at mode s.now at) }
 {
-    let v = param_value(mode, s, at);
-    if v.ok {
-        let good = is_cut_value(edition, q, v.quoted, mode, s, v.from, v.to);
-        if good {
-            return are_later_values(edition, q, mode, s, v.next);
-        }
-        return false;
-    }
-    true
+    let Ok(v) = param_value(mode, s, at) else {
+        return true;
+    };
+    is_cut_value(edition, q, v.quoted, mode, s, v.from, v.to)
+        && are_later_values(edition, q, mode, s, v.next)
 }

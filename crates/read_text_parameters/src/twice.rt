@@ -10,9 +10,6 @@ use octets::smaller;
 // So many names are in a round.
 const ROOM: usize = 2048;
 
-// Above every place.
-const NONE: usize = 65536;
-
 // Collects the places of the names from `from` on, `most` of them and as many as there is room for: how many.
 fn collect(mode: usize, s: &[u8], from: usize, most: usize, places: &mut [u16]) -> usize
     ensures { result ≤ 65536 }
@@ -21,31 +18,32 @@ fn collect(mode: usize, s: &[u8], from: usize, most: usize, places: &mut [u16]) 
     let mut c = from;
     let mut k = 0;
     while k < n {
-        let a = name_at(mode, s, c);
-        if a.there {
-            put_place(places, k, a.name);
-            k += 1;
-            c = a.next;
-        } else {
+        let Some(a) = name_at(mode, s, c) else {
             return k;
-        }
+        };
+        put_place(places, k, a.name);
+        k += 1;
+        c = a.next;
     }
     k
 }
 
-// The smaller of `least` and `q`, if the names at `p` and `q` are the same.
-fn again_at(mode: usize, s: &[u8], p: usize, q: usize, least: usize) -> usize {
+// The smaller of `least`, if there is one, and `q`, if the names at `p` and `q` are the same.
+fn again_at(mode: usize, s: &[u8], p: usize, q: usize, least: Option<usize>) -> Option<usize> {
     let k = compare_names(mode, s, p, q);
     if k == 0 {
-        return smaller(least, q);
+        return match least {
+            Some(l) => Some(smaller(l, q)),
+            None => Some(q),
+        };
     }
     least
 }
 
-// The smallest of the first `n` places, which are sorted, whose name is that of a place before it.
-fn first_twice(mode: usize, s: &[u8], places: &[u16], n: usize) -> usize {
+// The smallest of the first `n` places, which are sorted, whose name is that of a place before it, if there is one.
+fn first_twice(mode: usize, s: &[u8], places: &[u16], n: usize) -> Option<usize> {
     let mut i = 0;
-    let mut least = NONE;
+    let mut least = None;
     while i + 1 < n {
         let p = place_at(places, i);
         let q = place_at(places, i + 1);
@@ -55,12 +53,20 @@ fn first_twice(mode: usize, s: &[u8], places: &[u16], n: usize) -> usize {
     least
 }
 
+// The place `p` is below `least`, if there is one.
+fn is_below(p: usize, least: Option<usize>) -> bool {
+    match least {
+        Some(l) => p < l,
+        None => true,
+    }
+}
+
 // Puts the place `p` at the number `k`, if it is below `least`: the number behind it.
-fn put_below(places: &mut [u16], k: usize, p: usize, least: usize) -> usize
+fn put_below(places: &mut [u16], k: usize, p: usize, least: Option<usize>) -> usize
     requires { k < 65536 }
     ensures { result ≤ k + 1 }
 {
-    if p < least {
+    if is_below(p, least) {
         put_place(places, k, p);
         return k + 1;
     }
@@ -68,7 +74,7 @@ fn put_below(places: &mut [u16], k: usize, p: usize, least: usize) -> usize
 }
 
 // Of the first `n` places those below `least`, in the same order: how many.
-fn put_all_below(places: &mut [u16], n: usize, least: usize) -> usize
+fn put_all_below(places: &mut [u16], n: usize, least: Option<usize>) -> usize
     requires { n ≤ 65536 }
     ensures { result ≤ 65536 }
 {

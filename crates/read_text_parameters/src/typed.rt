@@ -7,10 +7,9 @@ ghost use Rattle.text.specs.Parameters.{read_typed, read_word};
 ghost use Rattle.read_text_parameters.specs.Typing.{read_by};
 
 use schema::{
-    WordRead, is_quoted_parameter, parameter_has_words, parameter_type, read_word_of_parameter,
-    value_type,
+    is_quoted_parameter, parameter_has_words, parameter_type, read_word_of_parameter, value_type,
 };
-use values::{ValueRead, read_value};
+use values::read_value;
 
 // A value of the parameter's type. TEXT, and the value of an unrecognised parameter, is any characters.
 fn is_typed(q: usize, mode: usize, s: &[u8], at: usize) -> bool
@@ -23,7 +22,7 @@ fn is_typed(q: usize, mode: usize, s: &[u8], at: usize) -> bool
     if t == value_type::UNKNOWN {
         return true;
     }
-    let ValueRead::Good(v) = read_value(false, t, mode, s, at) else {
+    let Some(v) = read_value(false, t, mode, s, at) else {
         return false;
     };
     true
@@ -35,7 +34,7 @@ fn is_chosen(q: usize, mode: usize, s: &[u8], at: usize) -> bool
 {
     let closed = parameter_has_words(q);
     if closed {
-        let WordRead::At(i) = read_word_of_parameter(q, false, mode, s, at) else {
+        let Some(i) = read_word_of_parameter(q, false, mode, s, at) else {
             return false;
         };
         return true;

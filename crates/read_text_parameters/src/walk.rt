@@ -11,15 +11,15 @@ ghost use Rattle.read_text_parameters.specs.Walking.{number_of, other_again, com
 ghost use Rattle.read_text_parameters.specs.Walking.{encodes_by, fits_by, behind_at, stated_by, Notes, ended_by};
 ghost use Rattle.read_text_parameters.specs.Walking.{ParametersAt};
 
+use crate::ParameterFault;
 use crate::base64::is_base64;
 use crate::cut::{is_value_name, number_of};
 use crate::once::{first_again, stands_before};
 use crate::read::is_parameter;
 use crate::stated::{stated_type, type_in};
-use crate::{ParametersRead, TypeRead};
 use bits::{holds, insert};
 use edition::Edition;
-use read_text_line::{ParamRead, next_param};
+use read_text_line::{ParameterCursors, next_param};
 use schema::{Row, parameter, permits_parameter, value_type};
 
 // The number of VALUE, which is none of the table's.
@@ -84,7 +84,7 @@ fn is_other_again(n: Noted, mode: usize, s: &[u8], e: usize, name: usize, end: u
 }
 
 // The parameter of the number `q` comes again.
-fn is_again(n: Noted, q: usize, mode: usize, s: &[u8], e: usize, a: ParamRead) -> bool
+fn is_again(n: Noted, q: usize, mode: usize, s: &[u8], e: usize, a: ParameterCursors) -> bool
     requires { cuts mode ≡ true }
     ensures { result ≡ comes_again n q (name_cut mode s.now a.name a.end)
         (names_of (params_at mode s.now e)) }
@@ -117,7 +117,7 @@ fn type_for(edition: Edition, n: Noted, q: usize, mode: usize, s: &[u8], next: u
         if named {
             return t;
         }
-        let TypeRead::Type(u) = stated_type(edition, t, mode, s, next) else {
+        let Some(u) = stated_type(edition, t, mode, s, next) else {
             return value_type::DURATION;
         };
         return u;
@@ -163,7 +163,7 @@ fn is_fit(
     false
 }
 
-// The type behind a parameter of the number `q`, where that is sound.
+// The type behind a parameter of the number `q`, if that is sound.
 fn type_behind(
     edition: Edition,
     row: Row,
@@ -171,8 +171,8 @@ fn type_behind(
     q: usize,
     mode: usize,
     s: &[u8],
-    a: ParamRead,
-) -> TypeRead
+    a: ParameterCursors,
+) -> Option<usize>
     requires { cuts mode ≡ true }
     ensures { NumberOf (behind_at row (stated_by n (params_in edition mode s.now a.next)) n.value_type q
         (values_in edition mode s.now a.first)) result }
@@ -183,9 +183,9 @@ fn type_behind(
     let t = type_for(edition, n, q, mode, s, a.next);
     let fit = is_fit(edition, row, t, q, mode, s, a.first);
     if fit {
-        return TypeRead::Type(n.value_type);
+        return Some(n.value_type);
     }
-    TypeRead::Bad
+    None
 }
 
 // One parameter more, of the number `q`, and the type behind it.
@@ -203,18 +203,18 @@ fn added(n: Noted, q: usize, t: usize) -> Noted
 }
 
 // All parameters are sound.
-fn ended(n: Noted) -> ParametersRead
+fn ended(n: Noted) -> Result<usize, ParameterFault>
     ensures { result ≡ ended_by n }
 {
     let t = n.value_type;
     if t == value_type::BINARY {
         let encoded = holds(n.seen, parameter::ENCODING);
         if encoded {
-            return ParametersRead::Good(t);
+            return Ok(t);
         }
-        return ParametersRead::Unencoded;
+        return Err(ParameterFault::Unencoded);
     }
-    ParametersRead::Good(t)
+    Ok(t)
 }
 
 // The parameters from the cursor `e` on, of a property.
@@ -224,7 +224,7 @@ pub fn read_parameters(
     mode: usize,
     s: &[u8],
     e: usize,
-) -> ParametersRead
+) -> Result<usize, ParameterFault>
     requires { cuts mode ≡ true }
     ensures { ParametersAt row (params_in edition mode s.now e) result }
 {
@@ -235,26 +235,17 @@ pub fn read_parameters(
         again: 0,
         value_type: row.default,
     };
-    loop {
-        let a = next_param(mode, s, c);
-        if a.there {
-            if a.ok {
-                let q = number_at(mode, s, a.name, a.end);
-                let m = sought(n, mode, s, e);
-                let again = is_again(m, q, mode, s, e, a);
-                if again {
-                    return ParametersRead::Faulty(n.count);
-                }
-                let TypeRead::Type(t) = type_behind(edition, row, m, q, mode, s, a) else {
-                    return ParametersRead::Faulty(n.count);
-                };
-                n = added(m, q, t);
-                c = a.next;
-            } else {
-                return ended(n);
-            }
-        } else {
-            return ended(n);
+    while let Ok(Some(a)) = next_param(mode, s, c) {
+        let q = number_at(mode, s, a.name, a.end);
+        let m = sought(n, mode, s, e);
+        if is_again(m, q, mode, s, e, a) {
+            return Err(ParameterFault::Faulty(n.count));
         }
+        let Some(t) = type_behind(edition, row, m, q, mode, s, a) else {
+            return Err(ParameterFault::Faulty(n.count));
+        };
+        n = added(m, q, t);
+        c = a.next;
     }
+    ended(n)
 }

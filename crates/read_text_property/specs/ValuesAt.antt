@@ -1,7 +1,7 @@
 -- The values of a property by its row and the numbers of the component and of the type: what the code asks is what `read_values` says of the names.
 --     values_read      the answer of `read_values`: the type's number where the values are good
 --     own_at, good_at  whether the values are good, by these;   good_at: and their type is permitted
-use Rattle.std.specs.Prelude.{Bool, true, false, List, ℕ, eqb}
+use Rattle.std.specs.Prelude.{Bool, true, false, List, ℕ, eqb, Option, None, Some}
 use Rattle.octets.specs.Pick.{pick}
 use Rattle.octets.specs.Reading.{is_read}
 use Rattle.schema.specs.Numbers.{type_at}
@@ -12,12 +12,10 @@ use Rattle.schema.specs.declared.table.Row.{Row}
 use Rattle.numbers.specs.Geo.{read_geo}
 use Rattle.texts.specs.RequestStatus.{read_request_status}
 use Rattle.text.specs.Values.{read_listed, read_chosen}
-use Rattle.read_text_property.specs.declared.ValuesRead.{ValuesRead}
-use Rattle.read_text_property.specs.declared.ValuesRead.TheVariants.{Good, Bad}
 
-abbrev pub values_read : ℕ → Bool → ValuesRead
-values_read t true = Good t
-values_read t false = Bad
+abbrev pub values_read : ℕ → Bool → Option ℕ
+values_read t true = Some t
+values_read t false = None
 
 abbrev pub own_at : ℕ → Row → ℕ → List ℕ → Bool
 own_at k row t l =

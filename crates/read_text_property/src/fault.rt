@@ -5,25 +5,25 @@ ghost use Rattle.read_text_line.specs.Decoded.{params_in};
 ghost use Rattle.read_text_property.specs.ValuesAt.{good_at};
 ghost use Rattle.read_text_property.specs.Faults.{FaultIs, value_fault, fault_at};
 
+use crate::LineFault;
 use crate::own::read_values;
-use crate::{LineFault, ValuesRead};
 use edition::Edition;
 use read_text_line::LineCursors;
-use read_text_parameters::{ParametersRead, read_parameters};
+use read_text_parameters::{ParameterFault, read_parameters};
 use schema::{Context, Row};
 
-// The fault of the value from the cursor on.
-fn value_fault(c: Context, mode: usize, s: &[u8], at: usize) -> LineFault
+// The fault of the value from the cursor on, if there is one.
+fn value_fault(c: Context, mode: usize, s: &[u8], at: usize) -> Option<LineFault>
     requires { cuts mode ≡ true }
     ensures { result ≡ value_fault (good_at c.component c.row c.value_type (rest mode s.now at)) }
 {
-    let ValuesRead::Good(n) = read_values(c, mode, s, at) else {
-        return LineFault::Value;
+    let Some(n) = read_values(c, mode, s, at) else {
+        return Some(LineFault::Value);
     };
-    LineFault::None
+    None
 }
 
-// The lowest fault of a line of the property of the row in the component `k`.
+// The lowest fault, if there is one, of a line of the property of the row in the component `k`.
 pub fn property_fault(
     edition: Edition,
     k: usize,
@@ -31,13 +31,13 @@ pub fn property_fault(
     mode: usize,
     s: &[u8],
     l: LineCursors,
-) -> LineFault
+) -> Option<LineFault>
     requires { cuts mode ≡ true }
     ensures { FaultIs (fault_at k row (params_in edition mode s.now l.parameters)
         (rest mode s.now l.value)) result }
 {
     match read_parameters(edition, row, mode, s, l.parameters) {
-        ParametersRead::Good(t) => {
+        Ok(t) => {
             let c = Context {
                 component: k,
                 row,
@@ -45,7 +45,7 @@ pub fn property_fault(
             };
             value_fault(c, mode, s, l.value)
         }
-        ParametersRead::Faulty(i) => LineFault::Parameter(i),
-        ParametersRead::Unencoded => LineFault::Encoding,
+        Err(ParameterFault::Faulty(i)) => Some(LineFault::Parameter(i)),
+        Err(ParameterFault::Unencoded) => Some(LineFault::Encoding),
     }
 }

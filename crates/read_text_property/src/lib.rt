@@ -8,18 +8,10 @@ mod own;
 pub use fault::property_fault;
 pub use own::read_values;
 
-// The values are good, of the type of this number; or not.
-#[derive(Clone, Copy)]
-pub enum ValuesRead {
-    Good(usize),
-    Bad,
-}
-
-// What is wrong with a property's line: a parameter, by its number; ENCODING, which is missing; the value; or nothing.
-#[derive(Clone, Copy)]
+// What is wrong with a property's line: a parameter, by its number; ENCODING, which is missing; the value.
+#[derive(Clone, Copy, Debug, PartialEq, Eq)]
 pub enum LineFault {
     Parameter(usize),
     Encoding,
     Value,
-    None,
 }

@@ -9,35 +9,34 @@ ghost use Rattle.texts.specs.RequestStatus.{read_request_status};
 ghost use Rattle.text.specs.Values.{read_chosen};
 ghost use Rattle.read_text_property.specs.ValuesAt.{own_at, good_at, values_read};
 
-use crate::ValuesRead;
 use crate::list::read_listed;
-use numbers::geo::{GeoRead, read_geo};
-use schema::{Context, WordRead, has_words, permits_type, property, read_word_of};
-use texts::{Status, read_request_status};
-use values::{ValueRead, read_value};
+use numbers::geo::read_geo;
+use schema::{Context, has_words, permits_type, property, read_word_of};
+use texts::read_request_status;
+use values::read_value;
 
 // GEO.
-fn read_geo_value(t: usize, mode: usize, s: &[u8], at: usize) -> ValuesRead
+fn read_geo_value(t: usize, mode: usize, s: &[u8], at: usize) -> Option<usize>
     ensures { result ≡ values_read t (is_read (read_geo (rest mode s.now at))) }
 {
-    let GeoRead::At(e) = read_geo(mode, s, at) else {
-        return ValuesRead::Bad;
+    let Some(e) = read_geo(mode, s, at) else {
+        return None;
     };
-    ValuesRead::Good(t)
+    Some(t)
 }
 
 // REQUEST-STATUS.
-fn read_status(t: usize, mode: usize, s: &[u8], at: usize) -> ValuesRead
+fn read_status(t: usize, mode: usize, s: &[u8], at: usize) -> Option<usize>
     ensures { result ≡ values_read t (is_read (read_request_status (rest mode s.now at))) }
 {
-    let Status::Parts(a, d, b) = read_request_status(mode, s, at) else {
-        return ValuesRead::Bad;
+    let Some(p) = read_request_status(mode, s, at) else {
+        return None;
     };
-    ValuesRead::Good(t)
+    Some(t)
 }
 
 // One value: a word of the property's closed set where it has one.
-fn read_chosen(c: Context, mode: usize, s: &[u8], at: usize) -> ValuesRead
+fn read_chosen(c: Context, mode: usize, s: &[u8], at: usize) -> Option<usize>
     requires { cuts mode ≡ true }
     ensures { result ≡ values_read c.value_type (is_read
         (read_chosen (words_at c.component c.row.number) (type_at c.value_type)
@@ -46,19 +45,19 @@ fn read_chosen(c: Context, mode: usize, s: &[u8], at: usize) -> ValuesRead
     let p = c.row.number;
     let closed = has_words(c.component, p);
     if closed {
-        let WordRead::At(i) = read_word_of(c.component, p, false, mode, s, at) else {
-            return ValuesRead::Bad;
+        let Some(i) = read_word_of(c.component, p, false, mode, s, at) else {
+            return None;
         };
-        return ValuesRead::Good(c.value_type);
+        return Some(c.value_type);
     }
-    let ValueRead::Good(v) = read_value(false, c.value_type, mode, s, at) else {
-        return ValuesRead::Bad;
+    let Some(v) = read_value(false, c.value_type, mode, s, at) else {
+        return None;
     };
-    ValuesRead::Good(c.value_type)
+    Some(c.value_type)
 }
 
 // The values of a property.
-fn read_own(c: Context, mode: usize, s: &[u8], at: usize) -> ValuesRead
+fn read_own(c: Context, mode: usize, s: &[u8], at: usize) -> Option<usize>
     requires { cuts mode ≡ true }
     ensures { result ≡ values_read c.value_type
         (own_at c.component c.row c.value_type (rest mode s.now at)) }
@@ -76,15 +75,14 @@ fn read_own(c: Context, mode: usize, s: &[u8], at: usize) -> ValuesRead
     read_chosen(c, mode, s, at)
 }
 
-// The values from the cursor to the end, where the property permits the type.
-pub fn read_values(c: Context, mode: usize, s: &[u8], at: usize) -> ValuesRead
+// The values from the cursor to the end, where the property permits the type: the number of the type, if they are good.
+pub fn read_values(c: Context, mode: usize, s: &[u8], at: usize) -> Option<usize>
     requires { cuts mode ≡ true }
     ensures { result ≡ values_read c.value_type
         (good_at c.component c.row c.value_type (rest mode s.now at)) }
 {
-    let fits = permits_type(c.row, c.value_type);
-    if fits {
+    if permits_type(c.row, c.value_type) {
         return read_own(c, mode, s, at);
     }
-    ValuesRead::Bad
+    None
 }

@@ -1,24 +1,19 @@
 // A text that is read with its folds in place: no work room is lent, and nothing is copied.
 ghost use Rattle.read_text_whole.specs.Whole.{ReadsFolded};
 
-use crate::{Whole, judged};
-use calls::Answer;
-use edition::{EditionRead, edition_of};
-use refusals::Refusal;
+use crate::{Kept, judged};
+use edition::edition_of;
+use refusals::{Fault, Refusal};
 
 // The text `input`, read in the edition of the number `edition`.
-pub fn read_folded(input: &[u8], edition: u32) -> Whole
+pub fn read_folded(input: &[u8], edition: u32) -> Result<Kept, Fault>
     ensures { ReadsFolded input.now edition result }
 {
-    if input.len() <= 65535 {
-        match edition_of(edition) {
-            EditionRead::Known(e) => {
-                return judged(e, 2, input, input);
-            }
-            EditionRead::Unknown => {
-                return Whole::Refused(Answer::Refused(Refusal::Edition, 0));
-            }
-        }
+    if 65535 < input.len() {
+        return Err(Refusal::Length.at(0));
     }
-    Whole::Refused(Answer::Refused(Refusal::Length, 0))
+    let Some(e) = edition_of(edition) else {
+        return Err(Refusal::Edition.at(0));
+    };
+    judged(e, 2, input, input)
 }

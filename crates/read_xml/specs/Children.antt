@@ -1,11 +1,10 @@
 -- The children of a property, by the property's number p and the child's number.
 --     name_of                   the name of an element
 --     child_words p             the names of the children
---     slots_at                  their slots;   slot_at p i: the slot of the child of the number i, 4 where it has none
+--     slots_at                  their slots;   slot_at p i: the slot of the child of the number i, if it has one
 --     after_at                  the slot after a child
 --     flags_at                            the slots that must be filled: the first of the value, and of GEO and REQUEST-STATUS the second
-use Rattle.std.specs.Prelude.{Bool, true, false, List, [], ◌∷◌, ℕ, ◌+◌, eqb, ltb, take}
-use Rattle.std.proofs.Math.Option.{Option, none, some}
+use Rattle.std.specs.Prelude.{Bool, true, false, List, [], ◌∷◌, ℕ, ◌+◌, eqb, ltb, take, Option, None, Some}
 use Rattle.octets.specs.Ascii.{ascii}
 use Rattle.octets.specs.Pick.{pick, ◌and◌, ◌or◌}
 use Rattle.source.specs.Source.{rest}
@@ -44,13 +43,16 @@ slots_at p = slots_of (eqb p property.GEO) (eqb p property.REQUEST-STATUS) (prop
 
 -- ---- the slot of a child
 
-abbrev pub slot_at : ℕ → ℕ → ℕ
-slot_at p i = pick (eqb p property.GEO) (pick (ltb i 3) i 4) (pick (eqb p property.REQUEST-STATUS) (pick (ltb i 4) i 4) (pick (eqb i 0) 0 (pick (ltb i 16) 1 4)))
+abbrev pub number_below : ℕ → ℕ → Option ℕ
+number_below i n = pick (ltb i n) (Some i) None
+
+abbrev pub slot_at : ℕ → ℕ → Option ℕ
+slot_at p i = pick (eqb p property.GEO) (number_below i 3) (pick (eqb p property.REQUEST-STATUS) (number_below i 4) (pick (eqb i 0) (Some 0) (pick (ltb i 16) (Some 1) None)))
 
 -- ---- the slot after a child
 
 unfoldable pub after_at : Bool → ℕ → ℕ → Option ℕ
-after_at l k next = pick (ltb k 4) (pick (ltb k next) none (pick (eqb k 1 and l) (some k) (some (k + 1)))) none
+after_at l k next = pick (ltb k 4) (pick (ltb k next) None (pick (eqb k 1 and l) (Some k) (Some (k + 1)))) None
 
 -- ---- slots that must be filled
 

@@ -1,7 +1,8 @@
 -- A property's element, and the children of `properties`.
 --     PropertyAt   the contract of `property_verdict`
---     ListedAt     the contract of `properties_verdict`: the verdict, and what is kept of them
-use Rattle.std.specs.Prelude.{◌≡◌, Bool, not, List, ℕ, ◌≤◌}
+--     verdict_of   the verdict of a check that keeps something
+--     ListedAt     the contract of `properties_verdict`: what is kept of them, or the refusal
+use Rattle.std.specs.Prelude.{◌≡◌, ⊤, Bool, not, List, ℕ, ◌≤◌, Result, Ok, Err, IfOk}
 use Rattle.octets.specs.Pick.{◌and◌}
 use Rattle.names.specs.Table.{place_of}
 use Rattle.schema.specs.Components.{component_names, may_stand}
@@ -13,14 +14,19 @@ use Rattle.xml.specs.Nodes.{Nodes}
 use Rattle.xcal.specs.ValueNodes.{type_of_nodes}
 use Rattle.xcal.specs.PropertyNodes.{lacks_encoding, property_verdict, properties_verdict, read_properties}
 use Rattle.xml.specs.NodesAt.{nodes_at}
-use Rattle.read_xml_nodes.specs.Judging.{judged_as}
+use Rattle.calendar.specs.Refusal.{Verdict, fine}
+use Rattle.refusals.specs.Fault.{judged_as}
+use Rattle.refusals.specs.declared.Fault.{Fault}
 use Rattle.read_xml_nodes.specs.declared.Node.{Node}
-use Rattle.read_xml_nodes.specs.declared.Judged.{Judged}
-use Rattle.read_xml_nodes.specs.declared.Judged.TheVariants.{Fine}
 use Rattle.edition.specs.declared.Edition.{Edition}
 use Rattle.read_xml.specs.Children.{name_of}
 use Rattle.tallies.specs.Counting.{Counted}
-use Rattle.read_xml.specs.declared.Listed.{Listed}
+use Rattle.tallies.specs.declared.Kept.{Kept}
+
+-- the verdict of a check that keeps something
+abbrev pub verdict_of : {A : Type 0} → Result A Fault → Verdict
+verdict_of (Ok x) = fine
+verdict_of (Err f) = judged_as (Err f)
 
 -- ---- a value of type BINARY with no ENCODING
 
@@ -35,11 +41,11 @@ pub record OffAt (k : ℕ) (row : Row) (r : Bool) : Type 0 where
 module _ (ed : Edition) where
   -- ---- the element
 
-  pub record PropertyAt (k : ℕ) (s : List ℕ) (at : ℕ) (n : Node) (r : Judged) : Type 0 where
+  pub record PropertyAt (k : ℕ) (s : List ℕ) (at : ℕ) (n : Node) (r : Result ⊤ Fault) : Type 0 where
     pub is : (c : List ℕ) → k ≡ place_of c component_names → property_verdict ed c at (name_of s n) n.end (nodes_at s n.inside) ≡ judged_as r
 
   -- ---- the children of `properties`
 
-  pub record ListedAt (k : ℕ) (s : List ℕ) (from : ℕ) (r : Listed) : Type 0 where
-    pub is : (c : List ℕ) → k ≡ place_of c component_names → properties_verdict ed c (nodes_at s from) ≡ judged_as r.judged
-    pub counted : r.judged ≡ Fine → Counted (read_properties (nodes_at s from)) r.kept
+  pub record ListedAt (k : ℕ) (s : List ℕ) (from : ℕ) (r : Result Kept Fault) : Type 0 where
+    pub is : (c : List ℕ) → k ≡ place_of c component_names → properties_verdict ed c (nodes_at s from) ≡ verdict_of r
+    pub counted : IfOk r (λ t. Counted (read_properties (nodes_at s from)) t)

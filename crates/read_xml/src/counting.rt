@@ -4,15 +4,16 @@ ghost use Rattle.xml.specs.NodesAt.{nodes_at};
 ghost use Rattle.read_xml.specs.Counting.{WordAt};
 
 use crate::action::action_word;
-use schema::{action, property};
+use schema::{Action, property};
 
-// The number of the word of the property of the number `p`, whose content begins at `inside`, where it is an ACTION.
-pub fn word_of(p: usize, s: &[u8], inside: usize) -> usize
+// What the word of the property of the number `p` names, whose content begins at `inside`, where it is an ACTION.
+pub fn word_of(p: usize, s: &[u8], inside: usize) -> Option<Action>
     requires { (length s.now ≤ 65535) × (inside ≤ length s.now) }
     ensures { WordAt p (nodes_at s.now inside) result }
 {
     if p == property::ACTION {
-        return action_word(s, inside);
+        action_word(s, inside)
+    } else {
+        None
     }
-    action::NONE
 }

@@ -10,7 +10,6 @@ ghost use Rattle.xml.specs.NodesAt.{nodes_at};
 ghost use Rattle.read_xml.specs.Children.{name_of};
 ghost use Rattle.read_xml.specs.Properties.{LacksAt, OffAt, PropertyAt, ListedAt};
 
-use crate::Listed;
 use crate::children::{child_slot, children_verdict};
 use crate::counting::word_of;
 use edition::Edition;
@@ -18,12 +17,12 @@ use markup::element;
 use names::is_word;
 use octets::is_space;
 use read_text_line::is_carried_name;
-use read_xml_nodes::{Judged, Node, NodeKind, has_capital, next_node};
+use read_xml_nodes::{Node, NodeKind, has_capital, next_node};
 use read_xml_parameters::has_encoding;
 use read_xml_value::type_of_nodes;
-use refusals::{FRAME, NAME, PARAMETER};
+use refusals::{Fault, Refusal};
 use schema::{Context, Row, may_stand, property, row_of, value_type};
-use tallies::{count, none_counted};
+use tallies::{Kept, count, none_counted};
 
 // Where the content begins of the `parameters` of the property of the number `p` that stands before its value; the end of the bytes where it has none.
 fn parameters_at(p: usize, s: &[u8], inside: usize) -> usize
@@ -32,27 +31,19 @@ fn parameters_at(p: usize, s: &[u8], inside: usize) -> usize
         nodes_at s.now result ≡ parameters_in w (nodes_at s.now inside) }
 {
     let mut at = inside;
-    loop {
+    'nodes: loop {
         let n = next_node(s, at);
-        let kind = n.kind;
-        match kind {
-            NodeKind::None => {
+        match n.kind {
+            NodeKind::Absent => {
                 return s.len();
             }
             NodeKind::Element => {
-                let slot = child_slot(p, s, n.name, n.name_end);
-                if slot == 0 {
-                    return n.inside;
-                }
-                if slot < 4 {
-                    return s.len();
+                if let Some(slot) = child_slot(p, s, n.name, n.name_end) {
+                    return if slot == 0 { n.inside } else { s.len() };
                 }
                 at = n.next;
             }
-            NodeKind::Literal => {
-                at = n.next;
-            }
-            NodeKind::Referred => {
+            NodeKind::Literal | NodeKind::Referred => {
                 at = n.next;
             }
         }
@@ -64,14 +55,10 @@ fn lacks_encoding(p: usize, t: usize, s: &[u8], inside: usize) -> bool
     ensures { LacksAt p t (nodes_at s.now inside) result }
 {
     if t == value_type::BINARY {
-        let q = parameters_at(p, s, inside);
-        let has = has_encoding(s, q);
-        if has {
-            return false;
-        }
-        return true;
+        !has_encoding(s, parameters_at(p, s, inside))
+    } else {
+        false
     }
-    false
 }
 
 // A name that no property element has.
@@ -79,14 +66,11 @@ fn bad_name(s: &[u8], name: usize, name_end: usize) -> bool
     requires { name_end ≤ length s.now }
     ensures { result ≡ bad_name (rest 0 (take name_end s.now) name) }
 {
-    let capital = has_capital(s, name, name_end);
-    if capital {
+    if has_capital(s, name, name_end) {
         return true;
     }
-    let carried = is_carried_name(0, &s[..name_end], name);
-    if carried {
-        let begin = is_word(0, &s[..name_end], name, &element::BEGIN);
-        if begin {
+    if is_carried_name(0, &s[..name_end], name) {
+        if is_word(0, &s[..name_end], name, &element::BEGIN) {
             return true;
         }
         return is_word(0, &s[..name_end], name, &element::END);
@@ -98,15 +82,7 @@ fn bad_name(s: &[u8], name: usize, name_end: usize) -> bool
 fn is_misplaced(k: usize, row: Row) -> bool
     ensures { OffAt k row result }
 {
-    let p = row.number;
-    if p < property::KNOWN {
-        let may = may_stand(k, row);
-        if may {
-            return false;
-        }
-        return true;
-    }
-    false
+    row.number < property::KNOWN && !may_stand(k, row)
 }
 
 // The row of the property whose element is `n`.
@@ -114,28 +90,31 @@ fn property_at(s: &[u8], n: Node) -> Row
     requires { n.name_end ≤ length s.now }
     ensures { result ≡ row_at (place_of (upper (name_of s.now n)) property_names) }
 {
-    let name_end = n.name_end;
-    row_of(0, &s[..name_end], n.name)
+    row_of(0, &s[..n.name_end], n.name)
 }
 
 // The property of the row in the component of the number `k`: its element is `n`, at `at`.
-fn property_verdict(edition: Edition, k: usize, row: Row, s: &[u8], at: usize, n: Node) -> Judged
+fn property_verdict(
+    edition: Edition,
+    k: usize,
+    row: Row,
+    s: &[u8],
+    at: usize,
+    n: Node,
+) -> Result<(), Fault>
     requires { (length s.now ≤ 65535) × (n.name_end ≤ length s.now) }
     ensures { row ≡ row_at (place_of (upper (name_of s.now n)) property_names) →
         PropertyAt edition k s.now at n result }
 {
-    let bad = bad_name(s, n.name, n.name_end);
-    if bad {
-        return Judged::Refused(NAME, at);
+    if bad_name(s, n.name, n.name_end) {
+        return Err(Refusal::Name.at(at));
     }
-    let off = is_misplaced(k, row);
-    if off {
-        return Judged::Refused(FRAME, at);
+    if is_misplaced(k, row) {
+        return Err(Refusal::Frame.at(at));
     }
     let t = type_of_nodes(row, s, n.inside);
-    let lacks = lacks_encoding(row.number, t, s, n.inside);
-    if lacks {
-        return Judged::Refused(PARAMETER, at);
+    if lacks_encoding(row.number, t, s, n.inside) {
+        return Err(Refusal::Parameter.at(at));
     }
     let context = Context {
         component: k,
@@ -145,49 +124,39 @@ fn property_verdict(edition: Edition, k: usize, row: Row, s: &[u8], at: usize, n
     children_verdict(edition, context, s, n.inside, n.end)
 }
 
-// The children of the `properties` of a component of the number `k`, and what is kept of them.
-pub fn properties_verdict(edition: Edition, k: usize, s: &[u8], inside: usize) -> Listed
+// The children of the `properties` of a component of the number `k`: what is kept of them.
+pub fn properties_verdict(
+    edition: Edition,
+    k: usize,
+    s: &[u8],
+    inside: usize,
+) -> Result<Kept, Fault>
     requires { length s.now ≤ 65535 }
     ensures { ListedAt edition k s.now inside result }
 {
     let mut at = inside;
     let mut kept = none_counted();
-    loop {
+    'nodes: loop {
         let n = next_node(s, at);
-        let kind = n.kind;
-        match kind {
-            NodeKind::None => {
-                let judged = Judged::Fine;
-                return Listed { judged, kept };
+        match n.kind {
+            NodeKind::Absent => {
+                return Ok(kept);
             }
             NodeKind::Element => {
                 let row = property_at(s, n);
-                let j = property_verdict(edition, k, row, s, at, n);
-                match j {
-                    Judged::Fine => {
-                        let word = word_of(row.number, s, n.inside);
-                        let more = count(kept, row.number, word);
-                        kept = more;
-                        at = n.next;
-                    }
-                    Judged::Refused(x, y) => {
-                        let judged = Judged::Refused(x, y);
-                        return Listed { judged, kept };
-                    }
-                }
+                property_verdict(edition, k, row, s, at, n)?;
+                kept = count(kept, row.number, word_of(row.number, s, n.inside));
+                at = n.next;
             }
             NodeKind::Literal => {
-                let space = is_space(n.unit);
-                if space {
+                if is_space(n.unit) {
                     at = n.next;
                 } else {
-                    let judged = Judged::Refused(FRAME, at);
-                    return Listed { judged, kept };
+                    return Err(Refusal::Frame.at(at));
                 }
             }
             NodeKind::Referred => {
-                let judged = Judged::Refused(FRAME, at);
-                return Listed { judged, kept };
+                return Err(Refusal::Frame.at(at));
             }
         }
     }

@@ -10,8 +10,8 @@ use edition::Edition;
 use markup::element;
 use names::is_word;
 use octets::is_space;
-use read_xml_nodes::{Element, Judged, NodeKind, next_node, unexpected};
-use refusals::FRAME;
+use read_xml_nodes::{Element, NodeKind, next_node, unexpected};
+use refusals::{Fault, Refusal};
 use schema::component;
 
 // The name is `vcalendar`.
@@ -23,26 +23,25 @@ fn is_calendar(s: &[u8], name: usize, name_end: usize) -> bool
 }
 
 // The children of `icalendar`, whose content begins at `inside`, and whose end tag is at `e`.
-fn stream_verdict(edition: Edition, s: &[u8], inside: usize, e: usize) -> Judged
+fn stream_verdict(edition: Edition, s: &[u8], inside: usize, e: usize) -> Result<(), Fault>
     requires { length s.now ≤ 65535 }
     ensures { StreamAt edition s.now inside e result }
 {
     let mut at = inside;
     let mut any = false;
-    loop {
+    'nodes: loop {
         let n = next_node(s, at);
-        let kind = n.kind;
-        match kind {
-            NodeKind::None => {
-                if any {
-                    return Judged::Fine;
-                }
-                return Judged::Refused(FRAME, e);
+        match n.kind {
+            NodeKind::Absent => {
+                return if any {
+                    Ok(())
+                } else {
+                    Err(Refusal::Frame.at(e))
+                };
             }
             NodeKind::Element => {
-                let calendar = is_calendar(s, n.name, n.name_end);
-                if calendar {
-                    let j = component_verdict(
+                if is_calendar(s, n.name, n.name_end) {
+                    component_verdict(
                         edition,
                         s,
                         n.inside,
@@ -50,43 +49,35 @@ fn stream_verdict(edition: Edition, s: &[u8], inside: usize, e: usize) -> Judged
                         component::BELOW,
                         false,
                         n.end,
-                    );
-                    match j {
-                        Judged::Fine => {
-                            any = true;
-                            at = n.next;
-                        }
-                        Judged::Refused(x, y) => {
-                            return Judged::Refused(x, y);
-                        }
-                    }
+                    )?;
+                    any = true;
+                    at = n.next;
                 } else {
-                    return no_component(s, at, n.name, n.name_end);
+                    return Err(no_component(s, at, n.name, n.name_end));
                 }
             }
             NodeKind::Literal => {
-                let space = is_space(n.unit);
-                if space {
+                if is_space(n.unit) {
                     at = n.next;
                 } else {
-                    return Judged::Refused(FRAME, at);
+                    return Err(Refusal::Frame.at(at));
                 }
             }
             NodeKind::Referred => {
-                return Judged::Refused(FRAME, at);
+                return Err(Refusal::Frame.at(at));
             }
         }
     }
 }
 
 // The root of a document.
-pub fn root_verdict(edition: Edition, s: &[u8], root: Element) -> Judged
+pub fn root_verdict(edition: Edition, s: &[u8], root: Element) -> Result<(), Fault>
     requires { (length s.now ≤ 65535) × (root.name_end ≤ length s.now) }
     ensures { RootAt edition s.now root result }
 {
-    let calendars = is_word(0, &s[..root.name_end], root.name, &element::ICALENDAR);
-    if calendars {
-        return stream_verdict(edition, s, root.inside, root.end);
+    if is_word(0, &s[..root.name_end], root.name, &element::ICALENDAR) {
+        stream_verdict(edition, s, root.inside, root.end)
+    } else {
+        Err(unexpected(s, root.place, root.name, root.name_end))
     }
-    unexpected(s, root.place, root.name, root.name_end)
 }

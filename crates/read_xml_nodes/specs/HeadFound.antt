@@ -13,7 +13,7 @@ use Rattle.xml.specs.NodesAt.{marks_at, nodes_at}
 use Rattle.read_xml_nodes.specs.declared.Ended.{Ended}
 use Rattle.read_xml_nodes.specs.declared.Head.{Head}
 use Rattle.read_xml_nodes.specs.declared.NodeKind.{NodeKind}
-use Rattle.read_xml_nodes.specs.declared.NodeKind.TheVariants.{None, Element, Literal, Referred}
+use Rattle.read_xml_nodes.specs.declared.NodeKind.TheVariants.{Absent, Element, Literal, Referred}
 
 -- what follows an element whose tag reaches to `next`: behind its end tag, where the tag opens it
 abbrev pub after_tag : List ℕ → Bool → ℕ → Nodes
@@ -25,7 +25,7 @@ end_of_tag s at opens next = pick opens (end_place (marks_at s next) 0) at
 
 -- the content from the place of a node on
 abbrev pub head_by : NodeKind → List ℕ → ℕ → Head → Nodes
-head_by None s at h = no_nodes
+head_by Absent s at h = no_nodes
 head_by Element s at h = element at (rest 0 (take h.name_end s) h.name) (end_of_tag s at h.opens h.next) (nodes_at s h.inside) (after_tag s h.opens h.next)
 head_by Literal s at h = literal at h.unit (nodes_at s h.next)
 head_by Referred s at h = referred at (spell h.unit) (nodes_at s h.next)
@@ -35,7 +35,7 @@ head_of s at h = head_by h.kind s at h
 
 -- a node of the kind k, unless it is none, takes bytes; so does an element's start tag
 abbrev pub Takes : (k : NodeKind) (at inside next : ℕ) → Type 0
-Takes None at inside next = Unit {0}
+Takes Absent at inside next = Unit {0}
 Takes Element at inside next = (at < next) × (at < inside)
 Takes Literal at inside next = at < next
 Takes Referred at inside next = at < next
@@ -57,7 +57,7 @@ pub record NodeEnded (s : List ℕ) (at : ℕ) (opens : Bool) (next : ℕ) (r : 
 -- ---- what `node_head` answers
 
 abbrev pub no_head : ℕ → Head
-no_head e = record { kind = None; name = 0; name_end = 0; inside = e; opens = false; next = e; unit = 0 }
+no_head e = record { kind = Absent; name = 0; name_end = 0; inside = e; opens = false; next = e; unit = 0 }
 
 abbrev pub character_head : NodeKind → ℕ → ℕ → ℕ → Head
 character_head k e u next = record { kind = k; name = 0; name_end = 0; inside = e; opens = false; next = next; unit = u }

@@ -6,7 +6,6 @@
 --     Elements     an element by its places
 --     First        the first element of some content
 --     RootFound    the root of a document
---     Judging      what readers find, as a verdict
 --     laws         laws of these, and what proofs need
 pub mod Plain
 pub mod Closing
@@ -15,5 +14,4 @@ pub mod NodeFound
 pub mod Elements
 pub mod First
 pub mod RootFound
-pub mod Judging
 pub mod laws

@@ -8,11 +8,11 @@ use Rattle.xml.specs.NodesAt.{nodes_at}
 use Rattle.read_xml_nodes.specs.HeadFound.{Takes}
 use Rattle.read_xml_nodes.specs.declared.Node.{Node}
 use Rattle.read_xml_nodes.specs.declared.NodeKind.{NodeKind}
-use Rattle.read_xml_nodes.specs.declared.NodeKind.TheVariants.{None, Element, Literal, Referred}
+use Rattle.read_xml_nodes.specs.declared.NodeKind.TheVariants.{Absent, Element, Literal, Referred}
 
 -- the content from the place of a node on
 abbrev pub node_by : NodeKind → List ℕ → ℕ → Node → Nodes
-node_by None s at r = no_nodes
+node_by Absent s at r = no_nodes
 node_by Element s at r = element at (rest 0 (take r.name_end s) r.name) r.end (nodes_at s r.inside) (nodes_at s r.next)
 node_by Literal s at r = literal at r.unit (nodes_at s r.next)
 node_by Referred s at r = referred at (spell r.unit) (nodes_at s r.next)
@@ -31,7 +31,7 @@ pub record NodeAt (s : List ℕ) (at : ℕ) (r : Node) : Type 0 where
 -- ---- what `next_node` answers
 
 abbrev pub no_node : ℕ → Node
-no_node e = record { kind = None; name = 0; name_end = 0; inside = e; end = 0; next = e; unit = 0 }
+no_node e = record { kind = Absent; name = 0; name_end = 0; inside = e; end = 0; next = e; unit = 0 }
 
 abbrev pub character_node : NodeKind → ℕ → ℕ → ℕ → Node
 character_node k e u next = record { kind = k; name = 0; name_end = 0; inside = e; end = 0; next = next; unit = u }

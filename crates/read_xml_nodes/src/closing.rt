@@ -15,19 +15,13 @@ pub fn element_end(s: &[u8], from: usize) -> Ended
     let mut at = from;
     let mut depth: usize = 0;
     while at < s.len() {
-        let b = wide(s[at]);
-        let plain = is_plain(b);
-        if plain {
+        if is_plain(wide(s[at])) {
             at += 1;
         } else {
             let t = token_at(s, at);
-            let kind = t.kind;
-            match kind {
+            match t.kind {
                 TokenKind::Start => {
                     depth += 1;
-                    at = t.next;
-                }
-                TokenKind::Empty => {
                     at = t.next;
                 }
                 TokenKind::End => {
@@ -40,10 +34,7 @@ pub fn element_end(s: &[u8], from: usize) -> Ended
                     depth -= 1;
                     at = t.next;
                 }
-                TokenKind::Char => {
-                    at = t.next;
-                }
-                TokenKind::Reference => {
+                TokenKind::Empty | TokenKind::Char | TokenKind::Reference => {
                     at = t.next;
                 }
                 TokenKind::Fault => {

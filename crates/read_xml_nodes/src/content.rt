@@ -10,7 +10,7 @@ fn no_node(s: &[u8]) -> Node
     ensures { result ≡ no_node (length s.now) }
 {
     Node {
-        kind: NodeKind::None,
+        kind: NodeKind::Absent,
         name: 0,
         name_end: 0,
         inside: s.len(),
@@ -39,9 +39,8 @@ pub fn next_node(s: &[u8], at: usize) -> Node
     ensures { NodeAt s.now at result }
 {
     let h = node_head(s, at);
-    let kind = h.kind;
-    match kind {
-        NodeKind::None => no_node(s),
+    match h.kind {
+        NodeKind::Absent => no_node(s),
         NodeKind::Element => {
             let e = node_end(s, at, h.opens, h.next);
             Node {

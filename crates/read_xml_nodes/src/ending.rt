@@ -11,7 +11,8 @@ pub fn node_end(s: &[u8], at: usize, opens: bool, next: usize) -> Ended
     ensures { NodeEnded s.now at opens next result }
 {
     if opens {
-        return element_end(s, next);
+        element_end(s, next)
+    } else {
+        Ended { place: at, next }
     }
-    Ended { place: at, next }
 }

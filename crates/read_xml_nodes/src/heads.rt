@@ -11,7 +11,7 @@ fn no_head(s: &[u8]) -> Head
     ensures { result ≡ no_head (length s.now) }
 {
     Head {
-        kind: NodeKind::None,
+        kind: NodeKind::Absent,
         name: 0,
         name_end: 0,
         inside: s.len(),
@@ -40,8 +40,7 @@ pub fn token_head(s: &[u8], at: usize) -> Head
     ensures { HeadAt s.now at result }
 {
     let t = token_at(s, at);
-    let kind = t.kind;
-    match kind {
+    match t.kind {
         TokenKind::Start => Head {
             kind: NodeKind::Element,
             name: t.name,
@@ -60,10 +59,9 @@ pub fn token_head(s: &[u8], at: usize) -> Head
             next: t.next,
             unit: 0,
         },
-        TokenKind::End => no_head(s),
         TokenKind::Char => character_head(NodeKind::Literal, s, t.unit, t.next),
         TokenKind::Reference => character_head(NodeKind::Referred, s, t.unit, t.next),
-        TokenKind::Fault => no_head(s),
+        TokenKind::End | TokenKind::Fault => no_head(s),
     }
 }
 
@@ -73,8 +71,7 @@ pub fn node_head(s: &[u8], at: usize) -> Head
 {
     if at < s.len() {
         let b = wide(s[at]);
-        let plain = is_plain(b);
-        if plain {
+        if is_plain(b) {
             return character_head(NodeKind::Literal, s, b, at + 1);
         }
     }

@@ -17,9 +17,9 @@ pub use readers::{has_capital, has_element, inner_element, unexpected};
 pub use root::root_node;
 
 // Nothing more in the element; or an element, a literal byte, a referred character.
-#[derive(Clone, Copy)]
+#[derive(Clone, Copy, Debug, PartialEq, Eq)]
 pub enum NodeKind {
-    None,
+    Absent,
     Element,
     Literal,
     Referred,
@@ -27,7 +27,7 @@ pub enum NodeKind {
 
 // A node: of an element the name, from `name` to `name_end`, where its content begins, and the place of its end tag;
 // of a character the byte or the code point, `unit`; and the place of the next node.
-#[derive(Clone, Copy)]
+#[derive(Clone, Copy, Debug, PartialEq, Eq)]
 pub struct Node {
     pub kind: NodeKind,
     pub name: usize,
@@ -40,7 +40,7 @@ pub struct Node {
 
 // The head of a node: what is known of it before an element's end tag is sought. `next` is the place behind its tag or character, and `opens` says that
 // an element's content begins there.
-#[derive(Clone, Copy)]
+#[derive(Clone, Copy, Debug, PartialEq, Eq)]
 pub struct Head {
     pub kind: NodeKind,
     pub name: usize,
@@ -52,25 +52,18 @@ pub struct Head {
 }
 
 // The place of an element's end tag, and that of what follows it.
-#[derive(Clone, Copy)]
+#[derive(Clone, Copy, Debug, PartialEq, Eq)]
 pub struct Ended {
     pub place: usize,
     pub next: usize,
 }
 
 // An element: the place of its start tag, its name, from `name` to `name_end`, where its content begins, and the place of its end tag.
-#[derive(Clone, Copy)]
+#[derive(Clone, Copy, Debug, PartialEq, Eq)]
 pub struct Element {
     pub place: usize,
     pub name: usize,
     pub name_end: usize,
     pub inside: usize,
     pub end: usize,
-}
-
-// What a reader of elements finds: nothing wrong, or the number of a refusal and its place.
-#[derive(Clone, Copy)]
-pub enum Judged {
-    Fine,
-    Refused(u8, usize),
 }

@@ -23,8 +23,7 @@ pub fn root_node(s: &[u8]) -> Element
     ensures { RootNode s.now result }
 {
     let t = root_at(s);
-    let kind = t.kind;
-    match kind {
+    match t.kind {
         TokenKind::Start => {
             let e = element_end(s, t.next);
             Element {
@@ -42,9 +41,6 @@ pub fn root_node(s: &[u8]) -> Element
             inside: s.len(),
             end: t.unit,
         },
-        TokenKind::End => no_root(),
-        TokenKind::Char => no_root(),
-        TokenKind::Reference => no_root(),
-        TokenKind::Fault => no_root(),
+        TokenKind::End | TokenKind::Char | TokenKind::Reference | TokenKind::Fault => no_root(),
     }
 }

@@ -19,7 +19,7 @@ pub fn next_child(s: &[u8], at: usize) -> Child
         let n = next_node(s, c);
         let kind = n.kind;
         match kind {
-            NodeKind::None => {
+            NodeKind::Absent => {
                 return Child {
                     there: false,
                     place: c,

@@ -13,9 +13,9 @@ use markup::table;
 use names::find_word;
 use octets::unit::END;
 use read_xml_nodes::has_element;
-use schema::{WordRead, parameter_has_words, parameter_type, read_word_of_parameter, value_type};
+use schema::{parameter_has_words, parameter_type, read_word_of_parameter, value_type};
 use source::xml_unit;
-use values::{ValueRead, read_value};
+use values::read_value;
 
 // The cursor of the characters of the content that begins at `inside`.
 pub fn cursor_of(s: &[u8], inside: usize) -> usize
@@ -47,21 +47,14 @@ pub fn has_byte(b: usize, s: &[u8], at: usize) -> bool
 fn is_chosen(q: usize, s: &[u8], at: usize) -> bool
     ensures { result ≡ is_read (read_word_in (row_at q).words (row_at q).type (rest 1 s.now at)) }
 {
-    let closed = parameter_has_words(q);
-    if closed {
-        let WordRead::At(i) = read_word_of_parameter(q, true, 1, s, at) else {
-            return false;
-        };
-        return true;
+    if parameter_has_words(q) {
+        return read_word_of_parameter(q, true, 1, s, at).is_some();
     }
     let t = parameter_type(q);
     if t == value_type::UNKNOWN {
         return true;
     }
-    let ValueRead::Good(v) = read_value(true, t, 1, s, at) else {
-        return false;
-    };
-    true
+    read_value(true, t, 1, s, at).is_some()
 }
 
 // The content that begins at `inside` is a value of the parameter.

@@ -15,7 +15,7 @@ pub use written::put_parameters;
 
 // An element of a content: whether there is one, the place of its start tag, its name, from `name` to `name_end`, where its content begins, the place of its
 // end tag, and the place of what follows it.
-#[derive(Clone, Copy)]
+#[derive(Clone, Copy, Debug, PartialEq, Eq)]
 pub struct Child {
     pub there: bool,
     pub place: usize,

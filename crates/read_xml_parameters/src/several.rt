@@ -25,7 +25,7 @@ pub fn are_values(q: usize, s: &[u8], at: usize) -> bool
         let n = next_node(s, c);
         let kind = n.kind;
         match kind {
-            NodeKind::None => {
+            NodeKind::Absent => {
                 return true;
             }
             NodeKind::Element => {

@@ -6,7 +6,7 @@ ghost use Rattle.schema.specs.Numbers.{type_at};
 ghost use Rattle.schema.specs.Coded.{row_at};
 ghost use Rattle.xcal.specs.ParameterNodes.{bad_name, parameters_verdict};
 ghost use Rattle.xml.specs.NodesAt.{nodes_at};
-ghost use Rattle.read_xml_nodes.specs.Judging.{judged_as};
+ghost use Rattle.refusals.specs.Fault.{judged_as};
 ghost use Rattle.read_xml_parameters.specs.Seen.{is_before};
 ghost use Rattle.read_xml_parameters.specs.Sound.{encoded_by, sound_by};
 ghost use Rattle.read_xml_parameters.specs.Told.{against_by, verdict_at};
@@ -18,8 +18,8 @@ use edition::Edition;
 use names::is_word;
 use octets::is_space;
 use read_text_line::is_carried_name;
-use read_xml_nodes::{Judged, NodeKind, has_capital, has_element, next_node};
-use refusals::{FRAME, NAME, PARAMETER};
+use read_xml_nodes::{NodeKind, has_capital, has_element, next_node};
+use refusals::{Fault, Refusal};
 use schema::{Row, parameter, parameter_number, permits_parameter, value_type};
 
 // The name has capitals, begins with `xml`, a digit or a hyphen, or is `value`.
@@ -148,31 +148,35 @@ fn judge(
     end: usize,
     inside: usize,
     fresh: bool,
-) -> Judged
+) -> Result<(), Fault>
     requires { (length s.now ≤ 65535) × (fresh ≡ true → is_before w.now at (nodes_at s.now from) ≡ false) }
     ensures { verdict_at edition row t s.now from at w.now end (nodes_at s.now inside)
         ≡ judged_as result }
 {
-    let bad = is_bad_name(w);
-    if bad {
-        return Judged::Refused(NAME, at);
+    if is_bad_name(w) {
+        return Err(Refusal::Name.at(at));
     }
     if at == end {
-        return Judged::Refused(FRAME, at);
+        return Err(Refusal::Frame.at(at));
     }
-    let against = is_against(edition, row, t, s, from, at, w, inside, fresh);
-    if against {
-        return Judged::Refused(PARAMETER, at);
+    if is_against(edition, row, t, s, from, at, w, inside, fresh) {
+        return Err(Refusal::Parameter.at(at));
     }
-    let some = has_element(s, inside);
-    if some {
-        return Judged::Fine;
+    if has_element(s, inside) {
+        Ok(())
+    } else {
+        Err(Refusal::Frame.at(end))
     }
-    Judged::Refused(FRAME, end)
 }
 
 // The verdict on the parameters whose content begins at `inside`, of the property of the row with a value of the type of the number `t`.
-pub fn parameters_verdict(edition: Edition, row: Row, t: usize, s: &[u8], inside: usize) -> Judged
+pub fn parameters_verdict(
+    edition: Edition,
+    row: Row,
+    t: usize,
+    s: &[u8],
+    inside: usize,
+) -> Result<(), Fault>
     requires { length s.now ≤ 65535 }
     ensures { (w : List ℕ) →
         row ≡ row_at (place_of w property_names) →
@@ -182,50 +186,38 @@ pub fn parameters_verdict(edition: Edition, row: Row, t: usize, s: &[u8], inside
     let mut c = inside;
     let mut i = 0;
     let mut fresh = 0;
-    loop {
+    'nodes: loop {
         let n = next_node(s, c);
-        let kind = n.kind;
-        match kind {
-            NodeKind::None => {
-                return Judged::Fine;
+        match n.kind {
+            NodeKind::Absent => {
+                return Ok(());
             }
             NodeKind::Element => {
-                let a = n.name;
-                let e = n.name_end;
-                let k = known_fresh(s, inside, i, fresh);
-                let j = judge(
+                fresh = known_fresh(s, inside, i, fresh);
+                judge(
                     edition,
                     row,
                     t,
                     s,
                     inside,
                     c,
-                    &s[a..e],
+                    &s[n.name..n.name_end],
                     n.end,
                     n.inside,
-                    i < k,
-                );
-                match j {
-                    Judged::Fine => {
-                        c = n.next;
-                        i += 1;
-                        fresh = k;
-                    }
-                    Judged::Refused(number, at) => {
-                        return Judged::Refused(number, at);
-                    }
-                }
+                    i < fresh,
+                )?;
+                c = n.next;
+                i += 1;
             }
             NodeKind::Literal => {
-                let space = is_space(n.unit);
-                if space {
+                if is_space(n.unit) {
                     c = n.next;
                 } else {
-                    return Judged::Refused(FRAME, c);
+                    return Err(Refusal::Frame.at(c));
                 }
             }
             NodeKind::Referred => {
-                return Judged::Refused(FRAME, c);
+                return Err(Refusal::Frame.at(c));
             }
         }
     }

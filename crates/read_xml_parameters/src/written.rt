@@ -17,7 +17,7 @@ use crate::children::next_child;
 use crate::leaf::{cursor_of, has_byte};
 use crate::several::are_values;
 use edition::Edition;
-use numbers::boolean::{BooleanRead, put_boolean, read_boolean};
+use numbers::boolean::{put_boolean, read_boolean};
 use octets::unit::{COLON, COMMA, SEMICOLON};
 use read_text_line::{put_param_name, put_param_value};
 use schema::{is_quoted_parameter, parameter_number, parameter_type, value_type};
@@ -46,10 +46,9 @@ fn is_quoted(q: usize, s: &[u8], at: usize) -> bool
 fn put_truth(out: &mut [u8], o: usize, s: &[u8], at: usize) -> usize
     ensures { Put out.old out.new o result (truth_shown (rest 1 s.now at)) }
 {
-    let r = read_boolean(true, 1, s, at);
-    match r {
-        BooleanRead::Truth(b) => put_boolean(out, o, false, b),
-        BooleanRead::Bad => o,
+    match read_boolean(true, 1, s, at) {
+        Some(b) => put_boolean(out, o, false, b),
+        None => o,
     }
 }
 

@@ -9,9 +9,10 @@ ghost use Rattle.read_xml_tokens.specs.Formed.{Formed, verdict_at, After};
 
 use crate::tag::root_at;
 use crate::token::token_at;
-use crate::{TokenAt, TokenKind, Xml};
+use crate::{TokenAt, TokenKind};
 use names::is_word;
 use octets::is_space;
+use refusals::{Fault, Refusal};
 
 // The name from `a` to `e` is that from `b` to `f`.
 fn same_name(s: &[u8], a: usize, e: usize, b: usize, f: usize) -> bool
@@ -28,20 +29,14 @@ fn same_name(s: &[u8], a: usize, e: usize, b: usize, f: usize) -> bool
 fn has_room(depth: usize) -> bool
     ensures { result ≡ room_at depth }
 {
-    if depth == 0 {
-        return false;
-    }
-    depth < 32
+    depth != 0 && depth < 32
 }
 
 // A character may stand where `depth` elements are open: white space alone behind the root.
 fn may_stand(depth: usize, u: usize) -> bool
     ensures { result ≡ may_stand depth u }
 {
-    if depth == 0 {
-        return is_space(u);
-    }
-    true
+    depth != 0 || is_space(u)
 }
 
 // An end tag with the name from `name` to `name_end` closes the innermost of `depth` open elements.
@@ -56,14 +51,10 @@ fn closes_top(
     requires { (depth ≤ 32) × (name ≤ name_end) × (name_end ≤ length s.now) }
     ensures { result ≡ closes_at s.now starts ends depth name name_end }
 {
-    if depth == 0 {
-        return false;
-    }
-    let top = depth - 1;
-    same_name(s, starts[top], ends[top], name, name_end)
+    depth != 0 && same_name(s, starts[depth - 1], ends[depth - 1], name, name_end)
 }
 
-// How many elements are open behind the token `t` at `at`; 33 where it may not stand there.
+// How many elements are open behind the token `t` at `at`, where it may stand there.
 fn depth_after(
     s: &[u8],
     at: usize,
@@ -71,43 +62,35 @@ fn depth_after(
     starts: [usize; 32],
     ends: [usize; 32],
     depth: usize,
-) -> usize
+) -> Option<usize>
     requires { Reads token_in s.now at at t × (at < length s.now) × (depth ≤ 32) }
     ensures { After s.now starts ends depth at t result }
 {
-    let kind = t.kind;
-    match kind {
+    match t.kind {
         TokenKind::Start => {
             if has_room(depth) {
-                return depth + 1;
+                Some(depth + 1)
+            } else {
+                None
             }
-            33
         }
-        TokenKind::Empty => {
-            if has_room(depth) {
-                return depth;
-            }
-            33
-        }
+        TokenKind::Empty => { if has_room(depth) { Some(depth) } else { None } }
         TokenKind::End => {
             if closes_top(s, starts, ends, depth, t.name, t.name_end) {
-                return depth - 1;
+                Some(depth - 1)
+            } else {
+                None
             }
-            33
         }
         TokenKind::Char => {
             if may_stand(depth, t.unit) {
-                return depth;
+                Some(depth)
+            } else {
+                None
             }
-            33
         }
-        TokenKind::Reference => {
-            if depth == 0 {
-                return 33;
-            }
-            depth
-        }
-        TokenKind::Fault => 33,
+        TokenKind::Reference => { if depth == 0 { None } else { Some(depth) } }
+        TokenKind::Fault => None,
     }
 }
 
@@ -118,7 +101,7 @@ fn content_formed(
     starts: [usize; 32],
     ends: [usize; 32],
     inside: usize,
-) -> Xml
+) -> Result<(), Fault>
     requires { (from ≤ length s.now) × (inside ≤ 32) }
     ensures { Formed (verdict_at s.now starts ends inside from) (length s.now) result }
 {
@@ -128,28 +111,25 @@ fn content_formed(
     let mut at = from;
     while at < s.len() {
         let t = token_at(s, at);
-        let d = depth_after(s, at, t, a, e, depth);
-        if 32 < d {
-            return Xml::Refused(at);
-        }
+        let Some(d) = depth_after(s, at, t, a, e, depth) else {
+            return Err(Refusal::Xml.at(at));
+        };
         if depth < d {
             a[depth] = t.name;
             e[depth] = t.name_end;
-            depth = d;
-            at = t.next;
-        } else {
-            depth = d;
-            at = t.next;
         }
+        depth = d;
+        at = t.next;
     }
     if depth == 0 {
-        return Xml::Fine;
+        Ok(())
+    } else {
+        Err(Refusal::Xml.at(at))
     }
-    Xml::Refused(at)
 }
 
-// Whether the input is within the XML profile.
-pub fn well_formed(s: &[u8]) -> Xml
+// Whether the input is within the XML profile, or the place of its first fault.
+pub fn well_formed(s: &[u8]) -> Result<(), Fault>
     ensures { Formed (xml_verdict s.now) (length s.now) result }
 {
     let t = root_at(s);
@@ -157,13 +137,11 @@ pub fn well_formed(s: &[u8]) -> Xml
     let mut e = [0usize; 32];
     a[0] = t.name;
     e[0] = t.name_end;
-    let kind = t.kind;
-    match kind {
+    match t.kind {
         TokenKind::Start => content_formed(s, t.next, a, e, 1),
         TokenKind::Empty => content_formed(s, t.next, a, e, 0),
-        TokenKind::End => Xml::Refused(t.unit),
-        TokenKind::Char => Xml::Refused(t.unit),
-        TokenKind::Reference => Xml::Refused(t.unit),
-        TokenKind::Fault => Xml::Refused(t.unit),
+        TokenKind::End | TokenKind::Char | TokenKind::Reference | TokenKind::Fault => {
+            Err(Refusal::Xml.at(t.unit))
+        }
     }
 }

@@ -12,7 +12,7 @@ pub use tag::root_at;
 pub use token::token_at;
 
 // The kinds of tokens. A fault is what is no token, and the end of the input.
-#[derive(Clone, Copy)]
+#[derive(Clone, Copy, Debug, PartialEq, Eq)]
 pub enum TokenKind {
     Start,
     Empty,
@@ -24,18 +24,11 @@ pub enum TokenKind {
 
 // A token: the places of a tag's name and of the name's end; the byte of a character, the code point of a reference, the place of a tag; and the place
 // behind the token.
-#[derive(Clone, Copy)]
+#[derive(Clone, Copy, Debug, PartialEq, Eq)]
 pub struct TokenAt {
     pub kind: TokenKind,
     pub name: usize,
     pub name_end: usize,
     pub unit: usize,
     pub next: usize,
-}
-
-// Whether a document is within the XML profile, or the place of its first fault.
-#[derive(Clone, Copy)]
-pub enum Xml {
-    Fine,
-    Refused(usize),
 }

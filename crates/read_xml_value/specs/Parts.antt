@@ -1,13 +1,11 @@
 -- The children of PERIOD and RECUR, by the numbers of their names. `rule` is true for RECUR.
 --     names_of, slots_of    the names of the children, and their slots
 --     after_at              the slot after a child, by its number
-use Rattle.std.specs.Prelude.{Bool, true, false, List, [], ◌∷◌, ℕ, ◌+◌, ◌-◌, ltb}
+use Rattle.std.specs.Prelude.{Bool, true, false, List, [], ◌∷◌, ℕ, ◌+◌, ◌-◌, ltb, Option, None, Some}
 use Rattle.octets.specs.Ascii.{ascii}
 use Rattle.octets.specs.Pick.{pick, within}
 use Rattle.xcal.specs.Layout.{Slot}
 use Rattle.xcal.specs.ValueNodes.{period_slots, recur_slots}
-use Rattle.read_xml_value.specs.declared.parts.After.{After}
-use Rattle.read_xml_value.specs.declared.parts.After.TheVariants.{Slot as Then, Nowhere}
 
 abbrev pub recur_names : List (List ℕ)
 recur_names =
@@ -35,8 +33,8 @@ count_of false = 3
 abbrev pub slot_number : ℕ → ℕ
 slot_number i = pick (ltb i 2) i (i - 1)
 
-abbrev pub after_at : Bool → ℕ → ℕ → After
+abbrev pub after_at : Bool → ℕ → ℕ → Option ℕ
 after_at rule i next =
     pick (ltb i (count_of rule))
-    (pick (ltb (slot_number i) next) Nowhere (pick (within 4 12 i) (Then (slot_number i)) (Then (slot_number i + 1))))
-    Nowhere
+    (pick (ltb (slot_number i) next) None (pick (within 4 12 i) (Some (slot_number i)) (Some (slot_number i + 1))))
+    None

@@ -10,9 +10,11 @@ mod value;
 pub use types::{element_type, type_of_nodes};
 pub use value::value_verdict;
 
-// The type that an element's name names, by its number; or a name that names none.
-#[derive(Clone, Copy)]
-pub enum Named {
-    Type(usize),
-    Bad,
+// Where a walk over children stands: at the node at `at`, where slots before `slot` have passed, and which of the two slots that must be filled are.
+#[derive(Clone, Copy, Debug, PartialEq, Eq)]
+pub struct Turn {
+    pub at: usize,
+    pub slot: usize,
+    pub first: bool,
+    pub second: bool,
 }

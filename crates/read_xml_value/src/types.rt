@@ -9,7 +9,6 @@ ghost use Rattle.xcal.specs.ValueNodes.{first_type, type_of_nodes};
 ghost use Rattle.xml.specs.NodesAt.{nodes_at};
 ghost use Rattle.read_xml_value.specs.ElementTypes.{TypeNamed};
 
-use crate::Named;
 use markup::table;
 use names::find_word;
 use read_xml_nodes::{NodeKind, node_end, node_head};
@@ -27,20 +26,18 @@ fn type_place(s: &[u8], name: usize, name_end: usize) -> usize
     ensures { result ≡ place_of (rest 0 (take name_end s.now) name) type_words }
 {
     if name_end <= s.len() {
-        return type_word(&s[..name_end], name);
+        type_word(&s[..name_end], name)
+    } else {
+        type_word(s, name)
     }
-    type_word(s, name)
 }
 
-// The type that an element's name names.
-pub fn element_type(s: &[u8], name: usize, name_end: usize) -> Named
+// The type that an element's name names, by its number; none where it names none.
+pub fn element_type(s: &[u8], name: usize, name_end: usize) -> Option<usize>
     ensures { TypeNamed (rest 0 (take name_end s.now) name) result }
 {
     let t = type_place(s, name, name_end);
-    if t < 15 {
-        return Named::Type(t);
-    }
-    Named::Bad
+    if t < 15 { Some(t) } else { None }
 }
 
 // The type of the first element from `inside` on that is named as one, or `t`.
@@ -48,29 +45,19 @@ fn first_type(t: usize, s: &[u8], inside: usize) -> usize
     ensures { (type_at result ≡ first_type (type_at t) (nodes_at s.now inside)) × (t ≤ 14 → result ≤ 14) }
 {
     let mut c = inside;
-    loop {
+    'nodes: loop {
         let n = node_head(s, c);
-        let kind = n.kind;
-        match kind {
-            NodeKind::None => {
+        match n.kind {
+            NodeKind::Absent => {
                 return t;
             }
             NodeKind::Element => {
-                let m = element_type(s, n.name, n.name_end);
-                match m {
-                    Named::Type(u) => {
-                        return u;
-                    }
-                    Named::Bad => {
-                        let e = node_end(s, c, n.opens, n.next);
-                        c = e.next;
-                    }
+                if let Some(u) = element_type(s, n.name, n.name_end) {
+                    return u;
                 }
+                c = node_end(s, c, n.opens, n.next).next;
             }
-            NodeKind::Literal => {
-                c = n.next;
-            }
-            NodeKind::Referred => {
+            NodeKind::Literal | NodeKind::Referred => {
                 c = n.next;
             }
         }

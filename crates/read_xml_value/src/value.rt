@@ -14,66 +14,62 @@ ghost use Rattle.xcal.specs.Layout.{leaf};
 ghost use Rattle.xcal.specs.ValueNodes.{read_word_of, value_verdict};
 ghost use Rattle.xml.specs.NodesAt.{nodes_at};
 ghost use Rattle.read_xml_nodes.specs.Elements.{name_at};
-ghost use Rattle.read_xml_nodes.specs.Judging.{judged_as};
+ghost use Rattle.refusals.specs.Fault.{judged_as};
 ghost use Rattle.read_xml_value.specs.Values.{typed_at};
 
-use crate::Named;
 use crate::leaves::{leaf, leaf_value, leaf_word};
 use crate::turns::parts_verdict;
 use crate::types::element_type;
-use read_xml_nodes::{Element, Judged};
-use refusals::VALUE;
+use read_xml_nodes::Element;
+use refusals::{Fault, Refusal};
 use schema::{Context, has_words, permits_type, property, value_type};
 
 // Character data: a word of the closed set that the property has in the component, or a value of the type.
-fn leaf_typed(context: Context, s: &[u8], e: Element) -> Judged
+fn leaf_typed(context: Context, s: &[u8], e: Element) -> Result<(), Fault>
     requires { (length s.now ≤ 65535) × (e.inside ≤ length s.now) }
     ensures { judged_as result
         ≡ leaf (read_word_of (words_at context.component context.row.number) (type_at context.value_type))
         e.place (nodes_at s.now e.inside) }
 {
     let p = context.row.number;
-    let closed = has_words(context.component, p);
-    if closed {
-        return leaf_word(context.component, p, s, e.place, e.inside);
+    if has_words(context.component, p) {
+        leaf_word(context.component, p, s, e.place, e.inside)
+    } else {
+        leaf_value(context.value_type, s, e.place, e.inside)
     }
-    leaf_value(context.value_type, s, e.place, e.inside)
 }
 
 // A value of the type.
-fn typed_verdict(context: Context, s: &[u8], e: Element) -> Judged
+fn typed_verdict(context: Context, s: &[u8], e: Element) -> Result<(), Fault>
     requires { (length s.now ≤ 65535) × (e.inside ≤ length s.now) }
     ensures { judged_as result ≡ typed_at context e.place e.end (nodes_at s.now e.inside) }
 {
     if context.value_type == value_type::PERIOD {
-        return parts_verdict(false, s, e.inside, e.end);
+        parts_verdict(false, s, e.inside, e.end)
+    } else if context.value_type == value_type::RECUR {
+        parts_verdict(true, s, e.inside, e.end)
+    } else {
+        leaf_typed(context, s, e)
     }
-    if context.value_type == value_type::RECUR {
-        return parts_verdict(true, s, e.inside, e.end);
-    }
-    leaf_typed(context, s, e)
 }
 
 // The same of an element that is named as the type `u`, where the property's first value has the type of the context.
-fn typed_as(context: Context, u: usize, s: &[u8], e: Element) -> Judged
+fn typed_as(context: Context, u: usize, s: &[u8], e: Element) -> Result<(), Fault>
     requires { (length s.now ≤ 65535) × (e.inside ≤ length s.now) }
     ensures { judged_as result
         ≡ pick (permits_type context.row u and eqb u context.value_type)
         (typed_at context e.place e.end (nodes_at s.now e.inside))
         (refuse spec.VALUE e.place) }
 {
-    let permitted = permits_type(context.row, u);
-    if permitted {
-        if u == context.value_type {
-            return typed_verdict(context, s, e);
-        }
-        return Judged::Refused(VALUE, e.place);
+    if permits_type(context.row, u) && u == context.value_type {
+        typed_verdict(context, s, e)
+    } else {
+        Err(Refusal::Value.at(e.place))
     }
-    Judged::Refused(VALUE, e.place)
 }
 
 // An element of a property's value: the context has the type of the property's first value.
-pub fn value_verdict(context: Context, s: &[u8], e: Element) -> Judged
+pub fn value_verdict(context: Context, s: &[u8], e: Element) -> Result<(), Fault>
     requires { (length s.now ≤ 65535) × (e.inside ≤ length s.now) }
     ensures { (c w : List ℕ) →
         context.component ≡ place_of c component_names →
@@ -88,11 +84,10 @@ pub fn value_verdict(context: Context, s: &[u8], e: Element) -> Judged
         return leaf_value(value_type::FLOAT, s, e.place, e.inside);
     }
     if p == property::REQUEST_STATUS {
-        return leaf(Judged::Fine, s, e.inside);
+        return leaf(Ok(()), s, e.inside);
     }
-    let m = element_type(s, e.name, e.name_end);
-    match m {
-        Named::Type(u) => typed_as(context, u, s, e),
-        Named::Bad => Judged::Refused(VALUE, e.place),
+    match element_type(s, e.name, e.name_end) {
+        Some(u) => typed_as(context, u, s, e),
+        None => Err(Refusal::Value.at(e.place)),
     }
 }

@@ -1,6 +1,5 @@
 -- Computed examples of items and rules.
-use Rattle.std.specs.Prelude.{◌≡◌, refl, true, false, List, [], ◌∷◌, map, ℕ}
-use Rattle.std.proofs.Math.Option.{none, some}
+use Rattle.std.specs.Prelude.{◌≡◌, refl, true, false, List, [], ◌∷◌, map, ℕ, None, Some}
 use Rattle.octets.specs.Ascii.{ascii}
 use Rattle.octets.specs.Reading.{is_read}
 use Rattle.calendar.specs.Calendar.{Format, ical, xcal, RulePart, moment, number, word, weekday}
@@ -10,38 +9,38 @@ use Rattle.recur.specs.Rule.{rule_part, read_rule, write_rule, is_rule}
 use Rattle.recur.specs.Computing.{recur_compute}
 
 -- words: any case from text, capitals from XML
-words : map (λ (f : Format). read_item f (ascii "FREQ") (ascii "Daily")) (ical ∷ xcal ∷ []) ≡ some (word (ascii "DAILY")) ∷ none ∷ []
+words : map (λ (f : Format). read_item f (ascii "FREQ") (ascii "Daily")) (ical ∷ xcal ∷ []) ≡ Some (word (ascii "DAILY")) ∷ None ∷ []
 unfolding recur_compute
 words = refl
 
 -- digit counts, signs and ranges
 counts : map (read_item ical (ascii "COUNT")) (ascii "0005" ∷ ascii "+5" ∷ ascii "0" ∷ ascii "2147483647" ∷ ascii "2147483648" ∷ ascii "" ∷ [])
-    ≡ some (number (whole_number false 5)) ∷ none ∷ none ∷ some (number (whole_number false 2147483647)) ∷ none ∷ none ∷ []
+    ≡ Some (number (whole_number false 5)) ∷ None ∷ None ∷ Some (number (whole_number false 2147483647)) ∷ None ∷ None ∷ []
 unfolding recur_compute
 counts = refl
 
 seconds : map (read_item ical (ascii "BYSECOND")) (ascii "07" ∷ ascii "007" ∷ ascii "60" ∷ ascii "61" ∷ ascii "-1" ∷ [])
-    ≡ some (number (whole_number false 7)) ∷ none ∷ some (number (whole_number false 60)) ∷ none ∷ none ∷ []
+    ≡ Some (number (whole_number false 7)) ∷ None ∷ Some (number (whole_number false 60)) ∷ None ∷ None ∷ []
 unfolding recur_compute
 seconds = refl
 
 positions : map (read_item xcal (ascii "BYSETPOS")) (ascii "-366" ∷ ascii "+001" ∷ ascii "0" ∷ ascii "-" ∷ ascii "+-1" ∷ [])
-    ≡ some (number (whole_number true 366)) ∷ some (number (whole_number false 1)) ∷ none ∷ none ∷ none ∷ []
+    ≡ Some (number (whole_number true 366)) ∷ Some (number (whole_number false 1)) ∷ None ∷ None ∷ None ∷ []
 unfolding recur_compute
 positions = refl
 
 days : map (read_item ical (ascii "BYDAY")) (ascii "su" ∷ ascii "+2Mo" ∷ ascii "-1SU" ∷ ascii "54SU" ∷ ascii "+SU" ∷ ascii "1" ∷ ascii "SUMO" ∷ ascii "SU1" ∷ [])
-    ≡ some (weekday none (ascii "SU")) ∷ some (weekday (some (whole_number false 2)) (ascii "MO")) ∷ some (weekday (some (whole_number true 1)) (ascii "SU")) ∷ none ∷ none ∷ none ∷ none ∷ none ∷ []
+    ≡ Some (weekday None (ascii "SU")) ∷ Some (weekday (Some (whole_number false 2)) (ascii "MO")) ∷ Some (weekday (Some (whole_number true 1)) (ascii "SU")) ∷ None ∷ None ∷ None ∷ None ∷ None ∷ []
 unfolding recur_compute
 days = refl
 
 ends : map (read_item ical (ascii "UNTIL")) (ascii "20240504" ∷ ascii "20240504t080000z" ∷ ascii "20240504T080000" ∷ ascii "20230229" ∷ ascii "2024-05-04" ∷ [])
-    ≡ some (moment (ascii "20240504")) ∷ some (moment (ascii "20240504T080000Z")) ∷ some (moment (ascii "20240504T080000")) ∷ none ∷ none ∷ []
+    ≡ Some (moment (ascii "20240504")) ∷ Some (moment (ascii "20240504T080000Z")) ∷ Some (moment (ascii "20240504T080000")) ∷ None ∷ None ∷ []
 unfolding recur_compute
 ends = refl
 
 xml_ends : map (read_item xcal (ascii "UNTIL")) (ascii "2024-05-04" ∷ ascii "2024-05-04T08:00:00Z" ∷ ascii "2024-05-04t08:00:00Z" ∷ ascii "20240504" ∷ [])
-    ≡ some (moment (ascii "20240504")) ∷ some (moment (ascii "20240504T080000Z")) ∷ none ∷ none ∷ []
+    ≡ Some (moment (ascii "20240504")) ∷ Some (moment (ascii "20240504T080000Z")) ∷ None ∷ None ∷ []
 unfolding recur_compute
 xml_ends = refl
 
@@ -50,7 +49,7 @@ xml_written : map (write_item xcal) (moment (ascii "20240504") ∷ moment (ascii
 unfolding recur_compute
 xml_written = refl
 
-written : map (write_item ical) (number (whole_number true 366) ∷ weekday (some (whole_number true 1)) (ascii "SU") ∷ weekday none (ascii "MO") ∷ word (ascii "DAILY") ∷ [])
+written : map (write_item ical) (number (whole_number true 366) ∷ weekday (Some (whole_number true 1)) (ascii "SU") ∷ weekday None (ascii "MO") ∷ word (ascii "DAILY") ∷ [])
     ≡ ascii "-366" ∷ ascii "-1SU" ∷ ascii "MO" ∷ ascii "DAILY" ∷ []
 unfolding recur_compute
 written = refl
@@ -62,10 +61,10 @@ items = refl
 
 -- a whole rule: its parts are put in the schema's order
 rule : read_rule (ascii "byday=-1SU,mo;FREQ=monthly;Count=010")
-    ≡ some (
+    ≡ Some (
     rule_part (ascii "FREQ") (word (ascii "MONTHLY") ∷ [])
     ∷ rule_part (ascii "COUNT") (number (whole_number false 10) ∷ [])
-    ∷ rule_part (ascii "BYDAY") (weekday (some (whole_number true 1)) (ascii "SU") ∷ weekday none (ascii "MO") ∷ [])
+    ∷ rule_part (ascii "BYDAY") (weekday (Some (whole_number true 1)) (ascii "SU") ∷ weekday None (ascii "MO") ∷ [])
     ∷ [])
 unfolding recur_compute
 rule = refl

@@ -3,8 +3,7 @@
 --     read_item    the item of a part of a given name
 --     write_item   the characters of an item: numbers without plus and leading zeros
 --     is_item      an item that a part of a given name can have
-use Rattle.std.specs.Prelude.{Bool, true, false, List, [], ◌∷◌, ℕ, leb, length}
-use Rattle.std.proofs.Math.Option.{Option, none, some}
+use Rattle.std.specs.Prelude.{Bool, true, false, List, [], ◌∷◌, ℕ, leb, length, Option, None, Some}
 use Rattle.octets.specs.Pick.{pick, ◌and◌, ◌or◌, within}
 use Rattle.octets.specs.Append.{◌⊕◌}
 use Rattle.octets.specs.Class.{is_alpha, upper}
@@ -55,21 +54,21 @@ read_signed d hi s = provided (is_short d (after_sign s) and is_numeral 1 hi (af
 -- ---- weekdays: an ordinal, if there are characters before the first letter, and a weekday
 
 abbrev pub read_ordinal : List ℕ → Option (Option Whole)
-read_ordinal [] = some none
-read_ordinal (b ∷ s) = and_then (read_signed 2 53 (b ∷ s)) (λ w. some (some w))
+read_ordinal [] = Some None
+read_ordinal (b ∷ s) = and_then (read_signed 2 53 (b ∷ s)) (λ w. Some (Some w))
 
 abbrev pub write_ordinal : Option Whole → List ℕ
-write_ordinal none = []
-write_ordinal (some w) = write_whole w
+write_ordinal None = []
+write_ordinal (Some w) = write_whole w
 
 abbrev pub read_weekday : Format → List ℕ → Option RuleItem
-read_weekday f s = and_then (read_ordinal (up_to is_alpha s)) (λ o. and_then (read_word f weekdays (from_on is_alpha s)) (λ d. some (weekday o d)))
+read_weekday f s = and_then (read_ordinal (up_to is_alpha s)) (λ o. and_then (read_word f weekdays (from_on is_alpha s)) (λ d. Some (weekday o d)))
 
 -- ---- the end of a rule: enddate = date / date-time
 
 abbrev pub or_other : {A : Type 0} → Option A → Option A → Option A
-or_other none o = o
-or_other (some a) o = some a
+or_other None o = o
+or_other (Some a) o = Some a
 
 abbrev pub read_enddate : Format → List ℕ → Option (List ℕ)
 read_enddate f s = or_other (read_date f s) (read_date_time f s)
@@ -80,11 +79,11 @@ write_enddate f m = pick (is_date m) (write_date f m) (write_date_time f m)
 -- ---- an item by what it is
 
 abbrev pub read_form : Format → ItemForm → List ℕ → Option RuleItem
-read_form f (word_of ws) s = and_then (read_word f ws s) (λ w. some (word w))
-read_form f enddate s = and_then (read_enddate f s) (λ m. some (moment m))
-read_form f counting s = and_then (read_counting s) (λ w. some (number w))
-read_form f (unsigned d lo hi) s = and_then (read_unsigned d lo hi s) (λ w. some (number w))
-read_form f (signed d hi) s = and_then (read_signed d hi s) (λ w. some (number w))
+read_form f (word_of ws) s = and_then (read_word f ws s) (λ w. Some (word w))
+read_form f enddate s = and_then (read_enddate f s) (λ m. Some (moment m))
+read_form f counting s = and_then (read_counting s) (λ w. Some (number w))
+read_form f (unsigned d lo hi) s = and_then (read_unsigned d lo hi s) (λ w. Some (number w))
+read_form f (signed d hi) s = and_then (read_signed d hi s) (λ w. Some (number w))
 read_form f weekdaynum s = read_weekday f s
 
 abbrev pub write_item : Format → RuleItem → List ℕ
@@ -118,8 +117,8 @@ is_signed hi (word w) = false
 is_signed hi (weekday o d) = false
 
 abbrev pub is_ordinal : Option Whole → Bool
-is_ordinal none = true
-is_ordinal (some w) = within 1 53 w.magnitude
+is_ordinal None = true
+is_ordinal (Some w) = within 1 53 w.magnitude
 
 abbrev pub is_weekdaynum : RuleItem → Bool
 is_weekdaynum (moment m) = false
@@ -141,8 +140,8 @@ abbrev pub read_item : Format → List ℕ → List ℕ → Option RuleItem
 read_item f n s = and_then (part_of n) (λ r. read_form f r.form s)
 
 abbrev pub is_for : Option Part → RuleItem → Bool
-is_for none i = false
-is_for (some r) i = is_of_form r.form i
+is_for None i = false
+is_for (Some r) i = is_of_form r.form i
 
 abbrev pub is_item : List ℕ → RuleItem → Bool
 is_item n i = is_for (part_of n) i

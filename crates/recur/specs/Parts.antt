@@ -4,8 +4,7 @@
 --     part_names    their names, in capitals
 --     is_list_part  a part that has a list of items: in XML its element may stand several times
 --     part_order    the place of a name in the schema's order, from 0; of another name, the number of the parts
-use Rattle.std.specs.Prelude.{Bool, true, false, List, [], ◌∷◌, map, ℕ}
-use Rattle.std.proofs.Math.Option.{Option, none, some}
+use Rattle.std.specs.Prelude.{Bool, true, false, List, [], ◌∷◌, map, ℕ, Option, None, Some}
 use Rattle.octets.specs.Ascii.{ascii}
 use Rattle.octets.specs.Words.{row_of}
 use Rattle.names.specs.Table.{place_of}
@@ -64,8 +63,8 @@ abbrev pub part_of : List ℕ → Option Part
 part_of n = row_of (λ (r : Part). r.name) n part_table
 
 abbrev pub is_listed : Option Part → Bool
-is_listed none = false
-is_listed (some r) = r.listed
+is_listed None = false
+is_listed (Some r) = r.listed
 
 abbrev pub is_list_part : List ℕ → Bool
 is_list_part n = is_listed (part_of n)

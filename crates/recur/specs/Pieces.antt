@@ -2,8 +2,7 @@
 --     Ends k m s c r       what stands from c on has its first byte k, or its end, at r
 --     place_at w         the place of the name of the piece w in the schema's order; 14 of no part's name
 --     are_items p ws     each of these is an item of the part at the place p
---     good               what the answer of `read_rule` says
-use Rattle.std.specs.Prelude.{◌≡◌, Bool, true, false, List, [], ◌∷◌, ℕ, ◌≤◌, eqb, get_or}
+use Rattle.std.specs.Prelude.{◌≡◌, Bool, true, List, [], ◌∷◌, ℕ, ◌≤◌, eqb, get_or}
 use Rattle.octets.specs.Pick.{◌and◌}
 use Rattle.octets.specs.Append.{◌⊕◌}
 use Rattle.octets.specs.Class.{upper}
@@ -15,8 +14,6 @@ use Rattle.names.specs.Table.{place_of}
 use Rattle.recur.specs.Parts.{part_names}
 use Rattle.recur.specs.Item.{read_item}
 use Rattle.recur.specs.Rule.{is_equals}
-use Rattle.recur.specs.declared.rule.RuleRead.{RuleRead}
-use Rattle.recur.specs.declared.rule.RuleRead.TheVariants.{Rule, Bad}
 
 pub record Ends (k m : ℕ) (s : List ℕ) (c r : ℕ) : Type 0 where
   pub is : rest m s c ≡ up_to (λ (b : ℕ). eqb b k) (rest m s c) ⊕ rest m s r
@@ -34,7 +31,3 @@ place_at w = place_of (piece_name w) part_names
 unfoldable pub are_items : ℕ → List (List ℕ) → Bool
 are_items p [] = true
 are_items p (w ∷ ws) = is_read (read_item ical (get_or part_names p []) w) and are_items p ws
-
-abbrev pub good : RuleRead → Bool
-good Rule = true
-good Bad = false

@@ -3,8 +3,7 @@
 --     read_rule    the parts of a rule, in the schema's order
 --     write_rule   the text of a rule
 --     is_rule      parts that are a rule
-use Rattle.std.specs.Prelude.{Bool, true, false, not, List, [], ◌∷◌, map, ℕ, eqb}
-use Rattle.std.proofs.Math.Option.{Option, none, some}
+use Rattle.std.specs.Prelude.{Bool, true, false, not, List, [], ◌∷◌, map, ℕ, eqb, Option, None, Some}
 use Rattle.octets.specs.Ascii.{ascii}
 use Rattle.octets.specs.Pick.{pick, ◌and◌}
 use Rattle.octets.specs.Append.{◌⊕◌}
@@ -31,7 +30,7 @@ abbrev pub items_of : List ℕ → List ℕ → List (List ℕ)
 items_of n v = pick (is_list_part n) (cut_at 44 v) (v ∷ [])
 
 abbrev pub read_items : List ℕ → List ℕ → Option RulePart
-read_items n v = and_then (read_each (read_item ical n) (items_of n v)) (λ is. some (rule_part n is))
+read_items n v = and_then (read_each (read_item ical n) (items_of n v)) (λ is. Some (rule_part n is))
 
 -- the name stands before the first =, the items after it. Where there is no =, there are no characters after it, and no item has none
 abbrev pub read_part : List ℕ → Option RulePart
@@ -64,8 +63,8 @@ abbrev pub is_complete : List RulePart → Bool
 is_complete ps = has_part (ascii "FREQ") ps and not (has_part (ascii "UNTIL") ps and has_part (ascii "COUNT") ps)
 
 unfoldable pub with_part : Option RulePart → List RulePart → List RulePart
-with_part none l = l
-with_part (some p) l = p ∷ l
+with_part None l = l
+with_part (Some p) l = p ∷ l
 
 -- the parts of these names, in the order of the names
 unfoldable pub in_order : List (List ℕ) → List RulePart → List RulePart

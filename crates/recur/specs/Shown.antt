@@ -1,7 +1,6 @@
 -- What is written of an item, from its characters, as the code writes it.
 --     shown g f k s     what is written in the format g of an item of the form k that is read from s in the format f
-use Rattle.std.specs.Prelude.{List, [], ℕ}
-use Rattle.std.proofs.Math.Option.{Option, none, some}
+use Rattle.std.specs.Prelude.{List, [], ℕ, Option, None, Some, unwrap_or}
 use Rattle.octets.specs.Pick.{pick}
 use Rattle.octets.specs.Append.{◌⊕◌}
 use Rattle.octets.specs.Class.{is_alpha}
@@ -15,8 +14,9 @@ use Rattle.recur.specs.Parts.{ItemForm, word_of, enddate, counting, unsigned, si
 use Rattle.recur.specs.Item.{in_capitals, read_enddate, write_enddate, whole_number}
 use Rattle.recur.specs.Numeral.{numeral_in}
 
+-- 2 ^ 32 - 1 stands for what is no number, as code writes it; no item has such characters
 abbrev pub shown_number : List ℕ → List ℕ
-shown_number s = write_whole (whole_number (has_minus s) (numeral_in 0 2147483647 (after_sign s)))
+shown_number s = write_whole (whole_number (has_minus s) (unwrap_or (numeral_in 0 2147483647 (after_sign s)) 4294967295))
 
 abbrev pub shown_ordinal : List ℕ → List ℕ
 shown_ordinal s = pick (is_empty s) [] (shown_number s)
@@ -32,5 +32,5 @@ shown g f weekdaynum s = shown_ordinal (up_to is_alpha s) ⊕ in_capitals f (fro
 -- ---- an item by its part
 
 abbrev pub shown_at : Format → Format → Option Part → List ℕ → List ℕ
-shown_at g f none s = []
-shown_at g f (some r) s = shown g f r.form s
+shown_at g f None s = []
+shown_at g f (Some r) s = shown g f r.form s

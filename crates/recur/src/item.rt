@@ -11,13 +11,6 @@ use crate::number::{is_numeral, is_signed, is_unsigned};
 use crate::part;
 use crate::word::{is_enddate, is_frequency, is_weekday, is_weekdaynum};
 
-// There is an item, of the part at this place; or none.
-#[derive(Clone, Copy)]
-pub enum ItemRead {
-    Good(usize),
-    Bad,
-}
-
 // FREQ, UNTIL, COUNT, INTERVAL.
 fn is_limit(p: usize, xcal: bool, mode: usize, s: &[u8], at: usize) -> bool
     requires { p < 4 }
@@ -75,8 +68,8 @@ fn is_day_part(p: usize, xcal: bool, mode: usize, s: &[u8], at: usize) -> bool
     is_weekday(xcal, mode, s, at)
 }
 
-// An item of the part at the place `p`.
-fn is_item(p: usize, xcal: bool, mode: usize, s: &[u8], at: usize) -> bool
+// There is an item of the part at the place `p`, from the cursor to the end.
+pub fn is_item(p: usize, xcal: bool, mode: usize, s: &[u8], at: usize) -> bool
     ensures { result ≡ is_read (read_item (format_of xcal) (get_or part_names p []) (rest mode s.now at)) }
 {
     if p < part::BYSECOND {
@@ -91,13 +84,12 @@ fn is_item(p: usize, xcal: bool, mode: usize, s: &[u8], at: usize) -> bool
     false
 }
 
-// The item of the part at the place `p`, from the cursor to the end.
-pub fn read_item(p: usize, xcal: bool, mode: usize, s: &[u8], at: usize) -> ItemRead
+// The place `p` of the part, where there is an item of it.
+pub fn read_item(p: usize, xcal: bool, mode: usize, s: &[u8], at: usize) -> Option<usize>
     ensures { result ≡ item_read p (is_read (read_item (format_of xcal) (get_or part_names p []) (rest mode s.now at))) }
 {
-    let fits = is_item(p, xcal, mode, s, at);
-    if fits {
-        return ItemRead::Good(p);
+    if is_item(p, xcal, mode, s, at) {
+        return Some(p);
     }
-    ItemRead::Bad
+    None
 }

@@ -1,5 +1,5 @@
 // RECUR: recurrence rules, their parts and items, read and written. Definitions and their laws are in specs/.
-#![tactic(auto)]
+#![tactic(auto, using(octets::specs::laws::Pick::branching_joined))]
 
 pub mod item;
 mod number;

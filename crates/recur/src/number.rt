@@ -19,8 +19,7 @@ fn is_short(letters: bool, d: usize, mode: usize, s: &[u8], at: usize) -> bool
     let mut i = 0;
     loop {
         let t = front_unit(letters, mode, s, c);
-        let u = t.u;
-        if u == END {
+        if t.u == END {
             return true;
         }
         if i == d {
@@ -31,20 +30,27 @@ fn is_short(letters: bool, d: usize, mode: usize, s: &[u8], at: usize) -> bool
     }
 }
 
-// The number, where there is a digit, and it is `lo` to `hi`; else 2 ^ 32 - 1.
-pub fn numeral_of(letters: bool, lo: u32, hi: usize, mode: usize, s: &[u8], at: usize) -> u32
+// The number, where there is a digit, and it is `lo` to `hi`.
+pub fn numeral_of(
+    letters: bool,
+    lo: u32,
+    hi: usize,
+    mode: usize,
+    s: &[u8],
+    at: usize,
+) -> Option<u32>
     requires { hi ≤ 2147483647 }
     ensures { numeral_in lo hi (front letters (rest mode s.now at)) ≡ result }
 {
     let t = front_unit(letters, mode, s, at);
     if t.u == END {
-        return 4294967295;
+        return None;
     }
-    let n = worth(letters, hi, mode, s, at);
+    let n = worth(letters, hi, mode, s, at)?;
     if n < lo {
-        return 4294967295;
+        return None;
     }
-    n
+    Some(n)
 }
 
 // Digits that are worth `lo` to `hi`.
@@ -52,8 +58,7 @@ pub fn is_numeral(letters: bool, lo: u32, hi: usize, mode: usize, s: &[u8], at: 
     requires { hi ≤ 2147483647 }
     ensures { result ≡ is_numeral lo hi (front letters (rest mode s.now at)) }
 {
-    let n = numeral_of(letters, lo, hi, mode, s, at);
-    n < 4294967295
+    numeral_of(letters, lo, hi, mode, s, at).is_some()
 }
 
 // No more than `d` digits that are worth `lo` to `hi`.
@@ -69,11 +74,7 @@ pub fn is_unsigned(
     requires { hi ≤ 2147483647 }
     ensures { result ≡ is_numeral_of d lo hi (front letters (rest mode s.now at)) }
 {
-    let few = is_short(letters, d, mode, s, at);
-    if few {
-        return is_numeral(letters, lo, hi, mode, s, at);
-    }
-    false
+    is_short(letters, d, mode, s, at) && is_numeral(letters, lo, hi, mode, s, at)
 }
 
 // The cursor after a sign.
@@ -81,11 +82,10 @@ pub fn after_sign(letters: bool, mode: usize, s: &[u8], at: usize) -> usize
     ensures { after_sign (front letters (rest mode s.now at)) ≡ front letters (rest mode s.now result) }
 {
     let t = front_unit(letters, mode, s, at);
-    let u = t.u;
-    if u == PLUS {
+    if t.u == PLUS {
         return t.next;
     }
-    if u == HYPHEN {
+    if t.u == HYPHEN {
         return t.next;
     }
     at

@@ -10,28 +10,14 @@ ghost use Rattle.names.specs.Packing.{lookup};
 ghost use Rattle.recur.specs.Parts.{part_names, part_of, is_listed};
 ghost use Rattle.recur.specs.Packs.{part_rows1, part_rows2};
 ghost use Rattle.recur.specs.Rule.{is_equals, read_part, read_rule};
-ghost use Rattle.recur.specs.Pieces.{Ends, place_at, are_items, good};
+ghost use Rattle.recur.specs.Pieces.{Ends, place_at, are_items};
 ghost use Rattle.recur.specs.Noted.{Parted, whole_in};
 
-use crate::item::{ItemRead, read_item};
+use crate::item::is_item;
 use crate::part;
 use names::packed::pack;
 use octets::unit::{COMMA, END, EQUALS, SEMICOLON};
 use source::unit;
-
-// Whether there is a rule.
-#[derive(Clone, Copy)]
-pub enum RuleRead {
-    Rule,
-    Bad,
-}
-
-// Whether there is a rule, and where each of the 14 parts stands: the cursor at its piece and one more; 0 where there is none.
-#[derive(Clone, Copy)]
-pub struct RuleParts {
-    pub good: bool,
-    pub begins: [usize; 14],
-}
 
 const LISTED: [u8; 14] = [0, 0, 0, 0, 1, 1, 1, 1, 1, 1, 1, 1, 1, 0];
 
@@ -43,11 +29,10 @@ pub fn byte_end(k: usize, mode: usize, s: &[u8], at: usize) -> usize
     let mut c = at;
     loop {
         let t = unit(mode, s, c);
-        let u = t.u;
-        if u == END {
+        if t.u == END {
             return c;
         }
-        if u == k {
+        if t.u == k {
             return c;
         }
         c = t.next;
@@ -160,12 +145,11 @@ fn are_items(p: usize, mode: usize, s: &[u8], at: usize) -> bool
     let mut c = at;
     loop {
         let e = byte_end(COMMA, mode, s, c);
-        let ItemRead::Good(i) = read_item(p, false, mode, &s[..e], c) else {
+        if !is_item(p, false, mode, &s[..e], c) {
             return false;
-        };
+        }
         let n = unit(mode, s, e);
-        let u = n.u;
-        if u == END {
+        if n.u == END {
             return true;
         }
         c = n.next;
@@ -178,88 +162,62 @@ fn is_part(p: usize, mode: usize, s: &[u8], at: usize) -> bool
     ensures { result ≡ is_read (read_part (rest mode s.now at)) }
 {
     let v = value_at(mode, s, at);
-    let listed = is_list_part(p);
-    if listed {
+    if is_list_part(p) {
         return are_items(p, mode, s, v);
     }
-    let ItemRead::Good(i) = read_item(p, false, mode, s, v) else {
-        return false;
-    };
-    true
+    is_item(p, false, mode, s, v)
 }
 
 // FREQ is there; UNTIL and COUNT are not both there.
-fn is_whole(begins: [usize; 14]) -> bool
+fn is_whole(begins: [Option<usize>; 14]) -> bool
     ensures { result ≡ whole_in begins }
 {
-    if begins[part::FREQ] == 0 {
-        return false;
-    }
-    if begins[part::UNTIL] == 0 {
-        return true;
-    }
-    begins[part::COUNT] == 0
+    begins[part::FREQ].is_some() && (begins[part::UNTIL].is_none() || begins[part::COUNT].is_none())
 }
 
-// The parts from the cursor `at` to the end: each piece is one, and no two have the same name.
-fn find_parts(mode: usize, s: &[u8], at: usize) -> RuleParts
+// The parts from the cursor `at` to the end: each piece is one, and no two have the same name. Of each of the 14, the cursor at its piece, if it is there.
+fn find_parts(mode: usize, s: &[u8], at: usize) -> Option<[Option<usize>; 14]>
     requires { Within mode s.now at }
     ensures { Parted mode s.now at result }
 {
-    let mut begins = [0usize; 14];
+    let mut begins = [None; 14];
     let mut c = at;
     loop {
         let e = byte_end(SEMICOLON, mode, s, c);
         let p = part_place(mode, &s[..e], c);
-        let fits = is_part(p, mode, &s[..e], c);
-        if fits {
-            if begins[p] == 0 {
-                begins[p] = c + 1;
-                let n = unit(mode, s, e);
-                let u = n.u;
-                if u == END {
-                    let good = is_whole(begins);
-                    return RuleParts { good, begins };
-                }
-                c = n.next;
-            } else {
-                return RuleParts {
-                    good: false,
-                    begins,
-                };
-            }
-        } else {
-            return RuleParts {
-                good: false,
-                begins,
-            };
+        if !is_part(p, mode, &s[..e], c) {
+            return None;
         }
+        if begins[p].is_some() {
+            return None;
+        }
+        begins[p] = Some(c);
+        let n = unit(mode, s, e);
+        if n.u == END {
+            if is_whole(begins) {
+                return Some(begins);
+            }
+            return None;
+        }
+        c = n.next;
     }
 }
 
-// The rule from the cursor `at` to the end, and where its parts stand.
-pub fn read_parts(mode: usize, s: &[u8], at: usize) -> RuleParts
+// The rule from the cursor `at` to the end: where its parts stand.
+pub fn read_parts(mode: usize, s: &[u8], at: usize) -> Option<[Option<usize>; 14]>
     requires { cuts mode ≡ true }
     ensures { Parted mode s.now at result }
 {
     if s.len() < at {
-        let begins = [0usize; 14];
-        return RuleParts {
-            good: false,
-            begins,
-        };
+        return None;
     }
     find_parts(mode, s, at)
 }
 
-// The rule from the cursor `at` to the end.
-pub fn read_rule(mode: usize, s: &[u8], at: usize) -> RuleRead
+// There is a rule from the cursor `at` to the end.
+pub fn read_rule(mode: usize, s: &[u8], at: usize) -> bool
     requires { cuts mode ≡ true }
-    ensures { is_read (read_rule (rest mode s.now at)) ≡ good result }
+    ensures { result ≡ is_read (read_rule (rest mode s.now at)) }
 {
-    let r = read_parts(mode, s, at);
-    if r.good {
-        return RuleRead::Rule;
-    }
-    RuleRead::Bad
+    read_parts(mode, s, at).is_some()
 }

@@ -6,7 +6,6 @@ ghost use Rattle.octets.specs.Reading.{is_read};
 ghost use Rattle.octets.specs.Front.{up_to, from_on};
 ghost use Rattle.calendar.specs.Calendar.{format_of};
 ghost use Rattle.source.specs.Source.{rest};
-ghost use Rattle.times.specs.DateTime.{read_date_time};
 ghost use Rattle.recur.specs.Parts.{frequencies, weekdays, weekdaynum};
 ghost use Rattle.recur.specs.Item.{in_capitals, read_enddate};
 ghost use Rattle.recur.specs.Fits.{fits_ordinal, fits_form};
@@ -17,29 +16,27 @@ use numbers::numeral::front_unit;
 use octets::is_alpha;
 use octets::unit::END;
 use source::unit;
-use times::date::{DateRead, read_date};
-use times::date_time::{DateTimeRead, read_date_time};
+use times::date::read_date;
+use times::date_time::read_date_time;
 
 // A frequency.
 pub fn is_frequency(xcal: bool, mode: usize, s: &[u8], at: usize) -> bool
     ensures { result ≡ is_one_of (in_capitals (format_of xcal) (rest mode s.now at)) frequencies }
 {
-    let n = find_word(
+    find_word(
         xcal,
         mode,
         s,
         at,
         b"SECONDLY\nMINUTELY\nHOURLY\nDAILY\nWEEKLY\nMONTHLY\nYEARLY\n",
-    );
-    n < 7
+    ) < 7
 }
 
 // A weekday.
 pub fn is_weekday(xcal: bool, mode: usize, s: &[u8], at: usize) -> bool
     ensures { result ≡ is_one_of (in_capitals (format_of xcal) (rest mode s.now at)) weekdays }
 {
-    let n = find_word(xcal, mode, s, at, b"SU\nMO\nTU\nWE\nTH\nFR\nSA\n");
-    n < 7
+    find_word(xcal, mode, s, at, b"SU\nMO\nTU\nWE\nTH\nFR\nSA\n") < 7
 }
 
 // The cursor at the first letter.
@@ -49,12 +46,10 @@ pub fn first_letter(mode: usize, s: &[u8], at: usize) -> usize
     let mut c = at;
     loop {
         let t = unit(mode, s, c);
-        let u = t.u;
-        if u == END {
+        if t.u == END {
             return c;
         }
-        let a = is_alpha(u);
-        if a {
+        if is_alpha(t.u) {
             return c;
         }
         c = t.next;
@@ -76,31 +71,12 @@ fn is_ordinal(mode: usize, s: &[u8], at: usize) -> bool
 pub fn is_weekdaynum(xcal: bool, mode: usize, s: &[u8], at: usize) -> bool
     ensures { result ≡ fits_form (format_of xcal) weekdaynum (rest mode s.now at) }
 {
-    let o = is_ordinal(mode, s, at);
-    if o {
-        let c = first_letter(mode, s, at);
-        return is_weekday(xcal, mode, s, c);
-    }
-    false
-}
-
-fn is_moment(xcal: bool, mode: usize, s: &[u8], at: usize) -> bool
-    ensures { result ≡ is_read (read_date_time (format_of xcal) (rest mode s.now at)) }
-{
-    let m = read_date_time(xcal, mode, s, at);
-    match m {
-        DateTimeRead::Moment(y, o, d, h, i, c, z) => true,
-        DateTimeRead::NoDateTime => false,
-    }
+    is_ordinal(mode, s, at) && is_weekday(xcal, mode, s, first_letter(mode, s, at))
 }
 
 // A date or a date-time.
 pub fn is_enddate(xcal: bool, mode: usize, s: &[u8], at: usize) -> bool
     ensures { result ≡ is_read (read_enddate (format_of xcal) (rest mode s.now at)) }
 {
-    let a = read_date(xcal, mode, s, at);
-    match a {
-        DateRead::Day(y, m, d) => true,
-        DateRead::NoDate => is_moment(xcal, mode, s, at),
-    }
+    read_date(xcal, mode, s, at).is_some() || read_date_time(xcal, mode, s, at).is_some()
 }

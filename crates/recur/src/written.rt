@@ -12,7 +12,7 @@ ghost use Rattle.recur.specs.Parts.{part_names, part_of, weekdaynum};
 ghost use Rattle.recur.specs.Item.{in_capitals, read_enddate, write_enddate, read_item, write_item};
 ghost use Rattle.recur.specs.Shown.{shown_number, shown_ordinal, shown, shown_at};
 
-use crate::item::{ItemRead, read_item};
+use crate::item::is_item;
 use crate::number::{after_sign, numeral_of};
 use crate::part;
 use crate::word::first_letter;
@@ -20,23 +20,25 @@ use names::{put_rest, put_upper};
 use numbers::integer::put_whole;
 use numbers::numeral::front_unit;
 use octets::unit::{END, HYPHEN};
-use times::date::{DateRead, put_date, read_date};
+use times::date::{put_date, read_date};
 use times::date_time::put_date_time;
+
+// What stands for characters that are no number. No item that is read has such.
+const NO_NUMBER: u32 = u32::MAX;
 
 fn is_minus(letters: bool, mode: usize, s: &[u8], at: usize) -> bool
     ensures { result ≡ has_minus (front letters (rest mode s.now at)) }
 {
-    let t = front_unit(letters, mode, s, at);
-    t.u == HYPHEN
+    front_unit(letters, mode, s, at).u == HYPHEN
 }
 
 fn put_number(out: &mut [u8], o: usize, letters: bool, mode: usize, s: &[u8], at: usize) -> usize
     ensures { Put out.old out.new o result (shown_number (front letters (rest mode s.now at))) }
 {
-    let neg = is_minus(letters, mode, s, at);
+    let negative = is_minus(letters, mode, s, at);
     let c = after_sign(letters, mode, s, at);
-    let n = numeral_of(letters, 0, 2147483647, mode, s, c);
-    put_whole(out, o, neg, n)
+    let n = numeral_of(letters, 0, 2147483647, mode, s, c).unwrap_or(NO_NUMBER);
+    put_whole(out, o, negative, n)
 }
 
 // What stands before the first letter.
@@ -90,11 +92,10 @@ fn put_enddate(
     ensures { Put out.old out.new o result
         (or_nothing (write_enddate (format_of to)) (read_enddate (format_of from) (rest mode s.now at))) }
 {
-    let a = read_date(from, mode, s, at);
-    match a {
-        DateRead::Day(y, m, d) => put_date(out, o, from, to, mode, s, at),
-        DateRead::NoDate => put_date_time(out, o, from, to, mode, s, at),
+    if read_date(from, mode, s, at).is_some() {
+        return put_date(out, o, from, to, mode, s, at);
     }
+    put_date_time(out, o, from, to, mode, s, at)
 }
 
 // What is written of an item of the part at the place `p`, where there is one: it is not read again.
@@ -143,8 +144,8 @@ pub fn put_item(
     ensures { Put out.old out.new o result (or_nothing (write_item (format_of to))
         (read_item (format_of from) (get_or part_names p []) (rest mode s.now at))) }
 {
-    let ItemRead::Good(i) = read_item(p, from, mode, s, at) else {
+    if !is_item(p, from, mode, s, at) {
         return o;
-    };
+    }
     put_shown(out, o, p, from, to, mode, s, at)
 }

@@ -8,8 +8,7 @@
 --     may_contain         whether a component may stand directly in another: unrecognised ones in a VCALENDAR and in each other
 --     may_stand           whether a known property may stand in a component; in a VALARM, one that any of the three lists has
 -- The pairs and choices inside the lists (lines 447, 492, 614, 627, 637) are judged in Counts; here each of their properties is one that may be missing.
-use Rattle.std.specs.Prelude.{Bool, not, List, [], ◌∷◌, map, ℕ, eqb, get_or}
-use Rattle.std.proofs.Math.Option.{Option, none, some}
+use Rattle.std.specs.Prelude.{Bool, not, List, [], ◌∷◌, map, ℕ, eqb, get_or, Option, None, Some}
 use Rattle.octets.specs.Ascii.{ascii}
 use Rattle.octets.specs.Pick.{pick, ◌and◌, ◌or◌}
 use Rattle.octets.specs.Append.{◌⊕◌}
@@ -27,7 +26,7 @@ abbrev pub signed : List ℕ → ℕ → Occurrence
 signed n s = record {
   property = n;
   least = pick (holds s (ascii "1+")) 1 0;
-  most = pick (holds s (ascii "*+")) none (some 1);
+  most = pick (holds s (ascii "*+")) None (Some 1);
 }
 
 abbrev point : ℕ
@@ -118,7 +117,7 @@ occurrences_of c = (component_row c).occurrences
 
 -- the list of a VALARM whose ACTION is a given word
 unfoldable pub alarm_occurrences : List ℕ → Option (List Occurrence)
-alarm_occurrences w = and_then (row_of (λ r. r.action) w alarm_table) (λ r. some r.occurrences)
+alarm_occurrences w = and_then (row_of (λ r. r.action) w alarm_table) (λ r. Some r.occurrences)
 
 abbrev pub is_alarm : List ℕ → Bool
 is_alarm c = same c (ascii "VALARM")

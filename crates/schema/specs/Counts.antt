@@ -6,8 +6,7 @@
 --     complete    whether the tallies of a component are as they must be: its name, its properties, what stands around them
 -- The tally of every known property is compared with the component's list; one that is not in the list may not stand. Unrecognised properties count for nothing.
 -- Pairs are judged by tallies, so that their order is free.
-use Rattle.std.specs.Prelude.{Bool, true, false, List, [], ◌∷◌, ℕ, suc, eqb, leb}
-use Rattle.std.proofs.Math.Option.{Option, none, some}
+use Rattle.std.specs.Prelude.{Bool, true, false, List, [], ◌∷◌, ℕ, suc, eqb, leb, Option, None, Some}
 use Rattle.octets.specs.Ascii.{ascii}
 use Rattle.octets.specs.Pick.{pick, ◌and◌, ◌or◌}
 use Rattle.octets.specs.Words.{same, row_of}
@@ -24,15 +23,15 @@ tally w (p ∷ ps) = pick (same w p.name) (suc (tally w ps)) (tally w ps)
 
 -- a property that is not in the list
 abbrev pub absent : List ℕ → Occurrence
-absent w = record { property = w; least = 0; most = some 0 }
+absent w = record { property = w; least = 0; most = Some 0 }
 
 abbrev pub occurrence_in : List Occurrence → List ℕ → Occurrence
 occurrence_in os w = read_or (absent w) (row_of (λ o. o.property) w os)
 
 -- no more than `most`, where there is one
 abbrev pub is_at_most : Option ℕ → ℕ → Bool
-is_at_most none n = true
-is_at_most (some m) n = leb n m
+is_at_most None n = true
+is_at_most (Some m) n = leb n m
 
 abbrev pub is_often : Occurrence → ℕ → Bool
 is_often o n = leb o.least n and is_at_most o.most n
@@ -81,20 +80,20 @@ pairs_of c ps around =
 -- ---- the list that decides
 
 abbrev pub first_text : List Value → Option (List ℕ)
-first_text [] = none
+first_text [] = None
 first_text (v ∷ vs) = text_in v
 
 unfoldable pub action_of : List Property → Option (List ℕ)
-action_of [] = none
+action_of [] = None
 action_of (p ∷ ps) = pick (same (ascii "ACTION") p.name) (first_text p.values) (action_of ps)
 
 -- of a VALARM the list that its ACTION names; none without one
 abbrev pub list_for : List ℕ → List Property → Option (List Occurrence)
-list_for c ps = pick (is_alarm c) (and_then (action_of ps) alarm_occurrences) (some (occurrences_of c))
+list_for c ps = pick (is_alarm c) (and_then (action_of ps) alarm_occurrences) (Some (occurrences_of c))
 
 abbrev pub often_for : Option (List Occurrence) → List Property → Bool
-often_for none ps = false
-often_for (some os) ps = each_often property_names os ps
+often_for None ps = false
+often_for (Some os) ps = each_often property_names os ps
 
 unfoldable pub complete : List ℕ → List Property → Around → Bool
 complete c ps around = often_for (list_for c ps) ps and pairs_of c ps around

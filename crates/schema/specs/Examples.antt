@@ -1,6 +1,5 @@
 -- The tables computed: each agrees with the others, and what they answer.
-use Rattle.std.specs.Prelude.{◌≡◌, refl, Bool, true, false, not, List, [], ◌∷◌, map, ℕ, length}
-use Rattle.std.proofs.Math.Option.{none, some}
+use Rattle.std.specs.Prelude.{◌≡◌, refl, Bool, true, false, not, List, [], ◌∷◌, map, ℕ, length, None, Some}
 use Rattle.octets.specs.Ascii.{ascii}
 use Rattle.octets.specs.Pick.{pick}
 use Rattle.octets.specs.Append.{joined}
@@ -46,7 +45,7 @@ unfolding schema_compute
 alarm_lists_distinct = refl
 
 -- ACTION's words are those that name a list
-alarm_actions : property_words (ascii "VALARM") (ascii "ACTION") ≡ some (map (λ r. r.action) alarm_table)
+alarm_actions : property_words (ascii "VALARM") (ascii "ACTION") ≡ Some (map (λ r. r.action) alarm_table)
 unfolding schema_compute
 alarm_actions = refl
 
@@ -74,7 +73,7 @@ subcomponents_known = refl
 
 -- ---- what they answer
 
-types_named : map type_named (ascii "DATE" ∷ ascii "UTC-OFFSET" ∷ ascii "UNKNOWN" ∷ ascii "date" ∷ []) ≡ some DATE ∷ some UTC-OFFSET ∷ none ∷ none ∷ []
+types_named : map type_named (ascii "DATE" ∷ ascii "UTC-OFFSET" ∷ ascii "UNKNOWN" ∷ ascii "date" ∷ []) ≡ Some DATE ∷ Some UTC-OFFSET ∷ None ∷ None ∷ []
 unfolding schema_compute
 types_named = refl
 
@@ -108,7 +107,7 @@ parameter_types_lem : map parameter_type (ascii "ALTREP" ∷ ascii "MEMBER" ∷ 
 unfolding schema_compute
 parameter_types_lem = refl
 
-parameter_words_lem : map parameter_words (ascii "RELATED" ∷ ascii "LANGUAGE" ∷ ascii "X-A" ∷ []) ≡ some (ascii "START" ∷ ascii "END" ∷ []) ∷ none ∷ none ∷ []
+parameter_words_lem : map parameter_words (ascii "RELATED" ∷ ascii "LANGUAGE" ∷ ascii "X-A" ∷ []) ≡ Some (ascii "START" ∷ ascii "END" ∷ []) ∷ None ∷ None ∷ []
 unfolding schema_compute
 parameter_words_lem = refl
 
@@ -122,11 +121,11 @@ unfolding schema_compute
 permits = refl
 
 status_words_lem : map (λ c. property_words c (ascii "STATUS")) (ascii "VEVENT" ∷ ascii "VJOURNAL" ∷ ascii "X-FLEET" ∷ []) ≡
-    some (ascii "TENTATIVE" ∷ ascii "CONFIRMED" ∷ ascii "CANCELLED" ∷ []) ∷ some (ascii "DRAFT" ∷ ascii "FINAL" ∷ ascii "CANCELLED" ∷ []) ∷ some status_words ∷ []
+    Some (ascii "TENTATIVE" ∷ ascii "CONFIRMED" ∷ ascii "CANCELLED" ∷ []) ∷ Some (ascii "DRAFT" ∷ ascii "FINAL" ∷ ascii "CANCELLED" ∷ []) ∷ Some status_words ∷ []
 unfolding schema_compute
 status_words_lem = refl
 
-property_words_lem : map (property_words (ascii "VCALENDAR")) (ascii "VERSION" ∷ ascii "METHOD" ∷ []) ≡ some (ascii "2.0" ∷ []) ∷ none ∷ []
+property_words_lem : map (property_words (ascii "VCALENDAR")) (ascii "VERSION" ∷ ascii "METHOD" ∷ []) ≡ Some (ascii "2.0" ∷ []) ∷ None ∷ []
 unfolding schema_compute
 property_words_lem = refl
 

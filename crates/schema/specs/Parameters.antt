@@ -4,8 +4,7 @@
 --     is_listed_parameter  whether it takes a list of values (`value-cal-address+`); an unrecognised one does
 --     parameter_words      its closed set of words, if it has one
 --     is_quoted_parameter  whether its values must be quoted in text
-use Rattle.std.specs.Prelude.{Bool, true, false, List, [], ◌∷◌, map, ℕ}
-use Rattle.std.proofs.Math.Option.{Option, none, some}
+use Rattle.std.specs.Prelude.{Bool, true, false, List, [], ◌∷◌, map, ℕ, Option, None, Some}
 use Rattle.octets.specs.Ascii.{ascii}
 use Rattle.octets.specs.Words.{is_one_of, row_of}
 use Rattle.octets.specs.Reading.{read_or}
@@ -20,28 +19,28 @@ pub record ParameterRow : Type 0 where
 
 -- value-text
 abbrev pub takes_text : List ℕ → ParameterRow
-takes_text n = record { name = n; type = TEXT; listed = false; quoted = false; words = none }
+takes_text n = record { name = n; type = TEXT; listed = false; quoted = false; words = None }
 
 -- element text { "A" | "B" }: these words only. The rules add no x-name to a closed set
 abbrev pub takes_word : List ℕ → List (List ℕ) → ParameterRow
-takes_word n ws = record { name = n; type = TEXT; listed = false; quoted = false; words = some ws }
+takes_word n ws = record { name = n; type = TEXT; listed = false; quoted = false; words = Some ws }
 
 -- value-boolean
 abbrev pub takes_boolean : List ℕ → ParameterRow
-takes_boolean n = record { name = n; type = BOOLEAN; listed = false; quoted = false; words = none }
+takes_boolean n = record { name = n; type = BOOLEAN; listed = false; quoted = false; words = None }
 
 -- The rules: ALTREP, DIR, MEMBER, DELEGATED-FROM, DELEGATED-TO, SENT-BY must be quoted when read and are quoted when written. They are those of these three kinds.
 -- value-uri
 abbrev pub takes_uri : List ℕ → ParameterRow
-takes_uri n = record { name = n; type = URI; listed = false; quoted = true; words = none }
+takes_uri n = record { name = n; type = URI; listed = false; quoted = true; words = None }
 
 -- value-cal-address
 abbrev pub takes_address : List ℕ → ParameterRow
-takes_address n = record { name = n; type = CAL-ADDRESS; listed = false; quoted = true; words = none }
+takes_address n = record { name = n; type = CAL-ADDRESS; listed = false; quoted = true; words = None }
 
 -- value-cal-address+
 abbrev pub takes_addresses : List ℕ → ParameterRow
-takes_addresses n = record { name = n; type = CAL-ADDRESS; listed = true; quoted = true; words = none }
+takes_addresses n = record { name = n; type = CAL-ADDRESS; listed = true; quoted = true; words = None }
 
 abbrev pub cutypes : List (List ℕ)  -- lines 26 to 32
 cutypes = ascii "INDIVIDUAL" ∷ ascii "GROUP" ∷ ascii "RESOURCE" ∷ ascii "ROOM" ∷ ascii "UNKNOWN" ∷ []
@@ -93,7 +92,7 @@ parameter_table =
 
 -- what stands for a parameter that is no row: one or more `unknown` values, quoted where its characters ask for it, of any words
 abbrev pub unrecognised_parameter : ParameterRow
-unrecognised_parameter = record { name = []; type = UNKNOWN; listed = true; quoted = false; words = none }
+unrecognised_parameter = record { name = []; type = UNKNOWN; listed = true; quoted = false; words = None }
 
 unfoldable pub parameter_row : List ℕ → ParameterRow
 parameter_row w = read_or unrecognised_parameter (row_of (λ r. r.name) w parameter_table)

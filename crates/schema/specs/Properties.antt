@@ -13,8 +13,7 @@
 -- What hangs on METHOD or on a pair stays beside the table: Counts. RELATED hangs on the type of TRIGGER's value: permits_parameter.
 -- In two points RFC 5545 decides and not the schema: DTSTART of a VEVENT may be missing (3.6.1), and a VTODO has DUE and no DTEND (3.6.2).
 -- In the schema `parameters?, a | b` is read as parameters, and then one of the alternatives.
-use Rattle.std.specs.Prelude.{Bool, true, false, List, [], ◌∷◌, map, ℕ}
-use Rattle.std.proofs.Math.Option.{Option, some}
+use Rattle.std.specs.Prelude.{Bool, true, false, List, [], ◌∷◌, map, ℕ, Option, Some}
 use Prim.Native.String.{String}
 use Rattle.octets.specs.Ascii.{ascii}
 use Rattle.octets.specs.Pick.{pick, ◌and◌}
@@ -175,7 +174,7 @@ status_table =
     []
 
 abbrev words_by : List ℕ → List WordsRow → Option (List (List ℕ))
-words_by w t = and_then (row_of (λ r. r.name) w t) (λ r. some r.words)
+words_by w t = and_then (row_of (λ r. r.name) w t) (λ r. Some r.words)
 
 abbrev pub status_words : List (List ℕ)
 status_words =
@@ -186,4 +185,4 @@ abbrev pub elsewhere : WordsRow
 elsewhere = record { name = []; words = status_words }
 
 unfoldable pub property_words : List ℕ → List ℕ → Option (List (List ℕ))
-property_words c p = pick (same p (ascii "STATUS")) (some (read_or elsewhere (row_of (λ r. r.name) c status_table)).words) (words_by p words_table)
+property_words c p = pick (same p (ascii "STATUS")) (Some (read_or elsewhere (row_of (λ r. r.name) c status_table)).words) (words_by p words_table)

@@ -4,8 +4,7 @@
 --     type_named   the type, of the fourteen, that has a name given in capitals
 --     same_type    the same type
 --     is_type_of   one of a list of types
-use Rattle.std.specs.Prelude.{Bool, false, List, [], ◌∷◌, ℕ, eqb}
-use Rattle.std.proofs.Math.Option.{Option}
+use Rattle.std.specs.Prelude.{Bool, false, List, [], ◌∷◌, ℕ, eqb, Option}
 use Rattle.octets.specs.Ascii.{ascii}
 use Rattle.octets.specs.Pick.{◌or◌}
 use Rattle.octets.specs.Words.{row_of}

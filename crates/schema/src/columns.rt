@@ -10,6 +10,7 @@ use bits::holds;
 use octets::wide;
 
 // Whether the values of a property may have the type `t`.
+#[tactic(auto, using(octets::specs::laws::Pick::branching_joined), unfolding(crate::specs::Columns::permits_type))]
 pub fn permits_type(row: Row, t: usize) -> bool
     ensures { result ≡ permits_type row t }
 {
@@ -17,26 +18,18 @@ pub fn permits_type(row: Row, t: usize) -> bool
 }
 
 // Whether a property whose values have the type `t` permits a parameter; RELATED only with DURATION.
+#[tactic(auto, using(octets::specs::laws::Pick::branching_joined), unfolding(crate::specs::Columns::permits_at))]
 pub fn permits_parameter(row: Row, t: usize, q: usize) -> bool
     ensures { result ≡ permits_at row t q }
 {
-    if q < parameter::KNOWN {
-        if row.number < property::KNOWN {
-            let ok = holds(row.parameters, q);
-            if ok {
-                if q == parameter::RELATED {
-                    return t == value_type::DURATION;
-                }
-                return true;
-            }
-            return false;
-        }
-        return true;
+    if q < parameter::KNOWN && row.number < property::KNOWN {
+        return holds(row.parameters, q) && (q != parameter::RELATED || t == value_type::DURATION);
     }
     true
 }
 
 // Whether a property may stand in the component `k`; in an unrecognised one every known one may.
+#[tactic(auto, using(octets::specs::laws::Pick::branching_joined), unfolding(crate::specs::Columns::stands_at))]
 pub fn may_stand(k: usize, row: Row) -> bool
     ensures { result ≡ stands_at k row }
 {

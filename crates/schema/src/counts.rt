@@ -3,10 +3,10 @@ ghost use Rattle.std.specs.Prelude.{◌≡◌, ◌≤◌, eqb, get_or};
 ghost use Rattle.octets.specs.Pick.{◌and◌, ◌or◌};
 ghost use Rattle.schema.specs.Arrays.{bumped};
 ghost use Rattle.schema.specs.Property as property;
-ghost use Rattle.schema.specs.Completing.{often_in, half_often, all_often, often_at, pairs_at, complete_at, method_at};
+ghost use Rattle.schema.specs.Completing.{often_in, half_often, all_often, list_of, alarm_often, often_at, pairs_at, complete_at, method_at};
 
 use crate::table::{Entry, HALF, first_half, second_half};
-use crate::{action, component, property};
+use crate::{Action, component, property};
 use bits::holds;
 
 // One more of the property `p`; of an unrecognised one, nothing.
@@ -26,25 +26,17 @@ pub fn bump(t: [u8; 46], p: usize) -> [u8; 46]
 }
 
 // A property stands `n` times, and by the list `l` it may.
+#[tactic(auto, using(octets::specs::laws::Pick::branching_joined), unfolding(crate::specs::Completing::often_in))]
 fn is_often(e: Entry, l: usize, n: u8) -> bool
     ensures { result ≡ often_in e l n }
 {
     if n == 0 {
-        let needed = holds(e.least as u32, l);
-        if needed {
-            return false;
-        }
+        return !holds(e.least as u32, l);
+    }
+    if holds(e.many as u32, l) {
         return true;
     }
-    let many = holds(e.many as u32, l);
-    if many {
-        return true;
-    }
-    let once = holds(e.once as u32, l);
-    if once {
-        return n == 1;
-    }
-    false
+    holds(e.once as u32, l) && n == 1
 }
 
 // Every property of a half of the table, whose first has the number `from`, stands as often as the list `l` says.
@@ -54,12 +46,10 @@ fn half_often(rows: [Entry; 23], from: usize, l: usize, t: [u8; 46]) -> bool
 {
     let mut n = 0;
     while n < HALF {
-        let ok = is_often(rows[n], l, t[from + n]);
-        if ok {
-            n += 1;
-        } else {
+        if !is_often(rows[n], l, t[from + n]) {
             return false;
         }
+        n += 1;
     }
     true
 }
@@ -68,24 +58,36 @@ fn half_often(rows: [Entry; 23], from: usize, l: usize, t: [u8; 46]) -> bool
 fn all_often(l: usize, t: [u8; 46]) -> bool
     ensures { result ≡ all_often l t }
 {
-    let rows = first_half();
-    let first = half_often(rows, 0, l, t);
-    if first {
-        let others = second_half();
-        return half_often(others, HALF, l, t);
+    half_often(first_half(), 0, l, t) && half_often(second_half(), HALF, l, t)
+}
+
+// The number of the list of an action.
+fn list_of(action: Action) -> usize
+    ensures { result ≡ list_of action }
+{
+    match action {
+        Action::Audio => component::VALARM,
+        Action::Display => component::VALARM + 1,
+        Action::Email => component::VALARM + 2,
     }
-    false
+}
+
+// The same by the list of an alarm's action.
+fn alarm_often(action: Option<Action>, t: [u8; 46]) -> bool
+    ensures { result ≡ alarm_often action t }
+{
+    match action {
+        Some(named) => all_often(list_of(named), t),
+        None => false,
+    }
 }
 
 // The same by the list of a component, which for a VALARM its ACTION names.
-fn often_at(k: usize, t: [u8; 46], action: usize) -> bool
+fn often_at(k: usize, t: [u8; 46], action: Option<Action>) -> bool
     ensures { result ≡ often_at k t action }
 {
     if k == component::VALARM {
-        if action < action::NONE {
-            return all_often(action + component::VALARM, t);
-        }
-        return false;
+        return alarm_often(action, t);
     }
     if k < component::KNOWN {
         return all_often(k, t);
@@ -97,10 +99,7 @@ fn often_at(k: usize, t: [u8; 46], action: usize) -> bool
 fn event_start(t: [u8; 46], method: bool) -> bool
     ensures { result ≡ (method or eqb (get_or t property.DTSTART 0) 1) }
 {
-    if method {
-        return true;
-    }
-    t[property::DTSTART] == 1
+    method || t[property::DTSTART] == 1
 }
 
 // VEVENT: the same, and not both DTEND and DURATION.
@@ -109,14 +108,7 @@ fn event_pair(t: [u8; 46], method: bool) -> bool
         ≡ ((method or eqb (get_or t property.DTSTART 0) 1)
         and (eqb (get_or t property.DTEND 0) 0 or eqb (get_or t property.DURATION 0) 0)) }
 {
-    let started = event_start(t, method);
-    if started {
-        if t[property::DTEND] == 0 {
-            return true;
-        }
-        return t[property::DURATION] == 0;
-    }
-    false
+    event_start(t, method) && (t[property::DTEND] == 0 || t[property::DURATION] == 0)
 }
 
 // VTODO: DURATION only with DTSTART and without DUE.
@@ -125,13 +117,7 @@ fn todo_pair(t: [u8; 46]) -> bool
         ≡ (eqb (get_or t property.DURATION 0) 0
         or (eqb (get_or t property.DTSTART 0) 1 and eqb (get_or t property.DUE 0) 0)) }
 {
-    if t[property::DURATION] == 0 {
-        return true;
-    }
-    if t[property::DTSTART] == 1 {
-        return t[property::DUE] == 0;
-    }
-    false
+    t[property::DURATION] == 0 || (t[property::DTSTART] == 1 && t[property::DUE] == 0)
 }
 
 // VALARM: DURATION and REPEAT, or neither.
@@ -160,16 +146,18 @@ fn pairs_at(k: usize, t: [u8; 46], inner: bool, method: bool) -> bool
     true
 }
 
-// Whether the tallies of the component `k` are as they must be: `action` is the number of its ACTION's word among AUDIO, DISPLAY, EMAIL,
-// NONE where it is none of them; `inner`, whether it has a subcomponent; `method`, whether the calendar round it has METHOD.
-pub fn complete_counts(k: usize, t: [u8; 46], action: usize, inner: bool, method: bool) -> bool
+// Whether the tallies of the component `k` are as they must be: `action` is what its ACTION names, if it names one; `inner`, whether it has a subcomponent;
+// `method`, whether the calendar round it has METHOD.
+pub fn complete_counts(
+    k: usize,
+    t: [u8; 46],
+    action: Option<Action>,
+    inner: bool,
+    method: bool,
+) -> bool
     ensures { result ≡ complete_at k t action (record { inner = inner; method = method }) }
 {
-    let often = often_at(k, t, action);
-    if often {
-        return pairs_at(k, t, inner, method);
-    }
-    false
+    often_at(k, t, action) && pairs_at(k, t, inner, method)
 }
 
 // Whether METHOD stands in the calendar of what is inside the component `k` with these tallies; `method`, whether it stands in the calendar round it.

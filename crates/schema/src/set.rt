@@ -34,5 +34,5 @@ pub const ROLE: usize = 15;
 // Of STATUS where none of the three above is given to a component.
 pub const STATUS: usize = 16;
 
-// How many there are, and the number of what has none.
-pub const NONE: usize = 17;
+// How many there are.
+pub const COUNT: usize = 17;

@@ -30,7 +30,7 @@ pub struct Entry {
 
 // What the table says of a property, fetched once for a line and passed on: its number, property::KNOWN for an unrecognised one; the type of its values where no VALUE is given, whether it takes a list of values,
 // the permitted types, parameters and components.
-#[derive(Clone, Copy)]
+#[derive(Clone, Copy, Debug, PartialEq, Eq)]
 pub struct Row {
     pub number: usize,
     pub default: usize,

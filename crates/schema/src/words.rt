@@ -3,13 +3,11 @@ ghost use Rattle.std.specs.Prelude.{◌≡◌};
 ghost use Rattle.octets.specs.Reading.{is_read};
 ghost use Rattle.source.specs.Source.{rest};
 ghost use Rattle.names.specs.Case.{cased, case_of};
-ghost use Rattle.names.specs.Table.{place_of, nth};
-ghost use Rattle.schema.specs.Completing.{action_names};
-ghost use Rattle.schema.specs.Sets.{word_sets, status_set, property_set, set_at, words_at, parameter_set, parameter_words_at, word_in};
+ghost use Rattle.schema.specs.Completing.{action_at, action_named};
+ghost use Rattle.schema.specs.Sets.{set_of, status_set, property_set, set_at, words_at, parameter_set, parameter_words_at, word_in};
 
-use crate::{WordRead, component, parameter, property, set};
+use crate::{Action, component, parameter, property, set};
 use names::find_word;
-use octets::wide;
 
 // The number of the set of STATUS in a component.
 fn status_set(k: usize) -> usize
@@ -27,34 +25,34 @@ fn status_set(k: usize) -> usize
     set::STATUS
 }
 
-// The number of the set of a property other than STATUS.
-fn property_set(p: usize) -> usize
+// The number of the set of a property other than STATUS, if it has one.
+fn property_set(p: usize) -> Option<usize>
     ensures { result ≡ property_set p }
 {
     if p == property::CALSCALE {
-        return set::CALSCALE;
+        return Some(set::CALSCALE);
     }
     if p == property::VERSION {
-        return set::VERSION;
+        return Some(set::VERSION);
     }
     if p == property::CLASS {
-        return set::CLASS;
+        return Some(set::CLASS);
     }
     if p == property::TRANSP {
-        return set::TRANSP;
+        return Some(set::TRANSP);
     }
     if p == property::ACTION {
-        return set::ACTION;
+        return Some(set::ACTION);
     }
-    set::NONE
+    None
 }
 
-// The number of the set of a property in a component, set::NONE where it has none.
-fn set_at(k: usize, p: usize) -> usize
+// The number of the set of a property in a component, if it has one.
+fn set_at(k: usize, p: usize) -> Option<usize>
     ensures { result ≡ set_at k p }
 {
     if p == property::STATUS {
-        return status_set(k);
+        return Some(status_set(k));
     }
     property_set(p)
 }
@@ -87,90 +85,112 @@ const STARTS: [usize; 18] = [
 // How many words each set has.
 const SIZES: [usize; 17] = [1, 1, 3, 2, 3, 3, 4, 3, 5, 2, 4, 7, 1, 2, 3, 4, 8];
 
-// The place of the word in the set `n`.
-fn read_in_set(n: usize, xcal: bool, mode: usize, s: &[u8], at: usize) -> WordRead
-    ensures { result ≡ word_in (nth word_sets n) (cased (case_of xcal) (rest mode s.now at)) }
+// The place of the word in the set of this number.
+fn read_in_set(number: Option<usize>, xcal: bool, mode: usize, s: &[u8], at: usize) -> Option<usize>
+    ensures { result ≡ word_in (set_of number) (cased (case_of xcal) (rest mode s.now at)) }
 {
-    if n < set::NONE {
-        let words = WORDS;
-        let from = STARTS[n];
-        let to = STARTS[n + 1];
-        let i = find_word(xcal, mode, s, at, &words[from..to]);
-        if i < SIZES[n] {
-            return WordRead::At(i);
-        }
-        return WordRead::NoWord;
+    let n = number?;
+    if n >= set::COUNT {
+        return None;
     }
-    WordRead::NoWord
+    let words = WORDS;
+    let from = STARTS[n];
+    let to = STARTS[n + 1];
+    let i = find_word(xcal, mode, s, at, &words[from..to]);
+    if i < SIZES[n] {
+        return Some(i);
+    }
+    None
 }
 
 // Whether a property has a closed set in a component.
 pub fn has_words(k: usize, p: usize) -> bool
     ensures { result ≡ is_read (words_at k p) }
 {
-    let n = set_at(k, p);
-    n < set::NONE
+    set_at(k, p).is_some()
 }
 
 // The place of the word in the closed set of a property in a component.
-pub fn read_word_of(k: usize, p: usize, xcal: bool, mode: usize, s: &[u8], at: usize) -> WordRead
+pub fn read_word_of(
+    k: usize,
+    p: usize,
+    xcal: bool,
+    mode: usize,
+    s: &[u8],
+    at: usize,
+) -> Option<usize>
     ensures { result ≡ word_in (words_at k p) (cased (case_of xcal) (rest mode s.now at)) }
 {
-    let n = set_at(k, p);
-    read_in_set(n, xcal, mode, s, at)
+    read_in_set(set_at(k, p), xcal, mode, s, at)
 }
 
 // The number of the set of each parameter.
-const PARAMETER_SETS: [u8; 19] = [
-    set::NONE as u8, // ALTREP
-    set::NONE as u8, // CN
-    set::CUTYPE as u8, // CUTYPE
-    set::NONE as u8, // DELEGATED-FROM
-    set::NONE as u8, // DELEGATED-TO
-    set::NONE as u8, // DIR
-    set::ENCODING as u8, // ENCODING
-    set::NONE as u8, // FMTTYPE
-    set::FBTYPE as u8, // FBTYPE
-    set::NONE as u8, // LANGUAGE
-    set::NONE as u8, // MEMBER
-    set::PARTSTAT as u8, // PARTSTAT
-    set::RANGE as u8, // RANGE
-    set::RELATED as u8, // RELATED
-    set::RELTYPE as u8, // RELTYPE
-    set::ROLE as u8, // ROLE
-    set::NONE as u8, // RSVP
-    set::NONE as u8, // SENT-BY
-    set::NONE as u8, // TZID
+const PARAMETER_SETS: [Option<usize>; 19] = [
+    None, // ALTREP
+    None, // CN
+    Some(set::CUTYPE), // CUTYPE
+    None, // DELEGATED-FROM
+    None, // DELEGATED-TO
+    None, // DIR
+    Some(set::ENCODING), // ENCODING
+    None, // FMTTYPE
+    Some(set::FBTYPE), // FBTYPE
+    None, // LANGUAGE
+    None, // MEMBER
+    Some(set::PARTSTAT), // PARTSTAT
+    Some(set::RANGE), // RANGE
+    Some(set::RELATED), // RELATED
+    Some(set::RELTYPE), // RELTYPE
+    Some(set::ROLE), // ROLE
+    None, // RSVP
+    None, // SENT-BY
+    None, // TZID
 ];
 
-fn parameter_set(q: usize) -> usize
+fn parameter_set(q: usize) -> Option<usize>
     ensures { result ≡ parameter_set q }
 {
     if q < parameter::KNOWN {
-        return wide(PARAMETER_SETS[q]);
+        return PARAMETER_SETS[q];
     }
-    set::NONE
+    None
 }
 
 // Whether a parameter has a closed set.
 pub fn parameter_has_words(q: usize) -> bool
     ensures { result ≡ is_read (parameter_words_at q) }
 {
-    let n = parameter_set(q);
-    n < set::NONE
+    parameter_set(q).is_some()
 }
 
 // The place of the word in the closed set of a parameter.
-pub fn read_word_of_parameter(q: usize, xcal: bool, mode: usize, s: &[u8], at: usize) -> WordRead
+pub fn read_word_of_parameter(
+    q: usize,
+    xcal: bool,
+    mode: usize,
+    s: &[u8],
+    at: usize,
+) -> Option<usize>
     ensures { result ≡ word_in (parameter_words_at q) (cased (case_of xcal) (rest mode s.now at)) }
 {
-    let n = parameter_set(q);
-    read_in_set(n, xcal, mode, s, at)
+    read_in_set(parameter_set(q), xcal, mode, s, at)
 }
 
-// The number of ACTION's word among AUDIO, DISPLAY, EMAIL, action::NONE where it is none of them.
-pub fn action_number(xcal: bool, mode: usize, s: &[u8], at: usize) -> usize
-    ensures { result ≡ place_of (cased (case_of xcal) (rest mode s.now at)) action_names }
+// The action whose word has this place in the set of ACTION.
+fn action_at(place: usize) -> Action
+    ensures { result ≡ action_at place }
 {
-    find_word(xcal, mode, s, at, b"AUDIO\nDISPLAY\nEMAIL\n")
+    match place {
+        0 => Action::Audio,
+        1 => Action::Display,
+        _ => Action::Email,
+    }
+}
+
+// The action that a word names: AUDIO, DISPLAY or EMAIL.
+pub fn action_named(xcal: bool, mode: usize, s: &[u8], at: usize) -> Option<Action>
+    ensures { result ≡ action_named (cased (case_of xcal) (rest mode s.now at)) }
+{
+    let place = read_in_set(Some(set::ACTION), xcal, mode, s, at)?;
+    Some(action_at(place))
 }

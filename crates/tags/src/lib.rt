@@ -16,16 +16,12 @@ use source::unit;
 pub fn put_escaped_byte(out: &mut [u8], at: usize, b: u8) -> usize
     ensures { Put out.old out.new at result (escaped_byte b) }
 {
-    if b == b'&' {
-        return put_all(out, at, b"&amp;");
+    match b {
+        b'&' => put_all(out, at, b"&amp;"),
+        b'<' => put_all(out, at, b"&lt;"),
+        b'>' => put_all(out, at, b"&gt;"),
+        _ => put(out, at, b),
     }
-    if b == b'<' {
-        return put_all(out, at, b"&lt;");
-    }
-    if b == b'>' {
-        return put_all(out, at, b"&gt;");
-    }
-    put(out, at, b)
 }
 
 // The characters from the cursor `from` to the end of the source.
@@ -36,11 +32,10 @@ pub fn put_escaped(out: &mut [u8], at: usize, mode: usize, s: &[u8], from: usize
     let mut c = from;
     loop {
         let t = unit(mode, s, c);
-        let u = t.u;
-        if u == END {
+        if t.u == END {
             return o;
         }
-        o = put_escaped_byte(out, o, u as u8);
+        o = put_escaped_byte(out, o, t.u as u8);
         c = t.next;
     }
 }

@@ -1,16 +1,16 @@
 // What is kept of the properties of a component while they are read. See specs/Counting.antt.
-#![tactic(auto)]
+#![tactic(auto, using(crate::specs::laws::Counting::counting))]
 
 ghost use Rattle.std.specs.Prelude.{◌≡◌, []};
 ghost use Rattle.tallies.specs.Counting.{Counted, is_first, CountsOn};
 
-use schema::{action, bump, property};
+use schema::{Action, bump, property};
 
-// How often each known property has come, and the number of the word of the first ACTION.
+// How often each known property has come, and what the first ACTION names, if it names an action.
 #[derive(Clone, Copy)]
 pub struct Kept {
     pub counts: [u8; 46],
-    pub action: usize,
+    pub action: Option<Action>,
 }
 
 // No property has come.
@@ -21,36 +21,29 @@ pub fn none_counted() -> Kept
     let counts = [0u8; 46];
     Kept {
         counts,
-        action: action::NONE,
+        action: None,
     }
 }
 
 // The property of the number `p` is an ACTION, and none has come.
+#[tactic(auto, using(octets::specs::laws::Pick::branching_joined))]
 fn is_first(kept: Kept, p: usize) -> bool
     ensures { result ≡ is_first p kept }
 {
-    if p == property::ACTION {
-        let counts = kept.counts;
-        return counts[property::ACTION] == 0;
-    }
-    false
+    p == property::ACTION && kept.counts[property::ACTION] == 0
 }
 
-// One property more, of the number `p`; `word`, the number of its word where it is an ACTION.
-pub fn count(kept: Kept, p: usize, word: usize) -> Kept
-    ensures { CountsOn p word kept result }
+// One property more, of the number `p`; `action`, what its word names where it is an ACTION.
+pub fn count(kept: Kept, p: usize, action: Option<Action>) -> Kept
+    ensures { CountsOn p action kept result }
 {
     let first = is_first(kept, p);
-    let counts = kept.counts;
-    let more = bump(counts, p);
+    let counts = bump(kept.counts, p);
     if first {
-        return Kept {
-            counts: more,
-            action: word,
-        };
+        return Kept { counts, action };
     }
     Kept {
-        counts: more,
+        counts,
         action: kept.action,
     }
 }

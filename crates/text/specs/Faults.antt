@@ -7,8 +7,7 @@
 --     first_faulty       how many parameters stand before the leftmost faulty one
 --     parameters_fault   the place of 7 in a line with these parameters, if it has that fault
 --     line_fault         the faults of a property's line: 7, then 8
-use Rattle.std.specs.Prelude.{Bool, true, false, not, List, [], ◌∷◌, ℕ, zero, suc, ◌+◌, ◌-◌, length}
-use Rattle.std.proofs.Math.Option.{Option, none, some}
+use Rattle.std.specs.Prelude.{Bool, true, false, not, List, [], ◌∷◌, ℕ, zero, suc, ◌+◌, ◌-◌, length, Option, None, Some}
 use Rattle.octets.specs.Ascii.{ascii}
 use Rattle.octets.specs.Pick.{pick, ◌and◌, ◌or◌}
 use Rattle.octets.specs.Class.{is_name_char, upper}
@@ -48,8 +47,8 @@ behind (suc i) s = behind i (left_by (next_param s))
 
 -- the value of a line, which is the line's last part
 abbrev pub value_in : Option ContentLine → List ℕ
-value_in none = []
-value_in (some l) = l.value
+value_in None = []
+value_in (Some l) = l.value
 
 unfoldable pub offset : List ℕ → Where → ℕ
 offset s line_start = 0
@@ -63,8 +62,8 @@ refused_at (fault r w) p s = refuse r (p + offset s w)
 -- ---- parameters: the type of the value is none where VALUE names no type
 
 abbrev pub is_binary : Option ValueType → Bool
-is_binary none = false
-is_binary (some t) = same_type t BINARY
+is_binary None = false
+is_binary (Some t) = same_type t BINARY
 
 abbrev pub is_encoding : RawParameter → Bool
 is_encoding r = same (upper r.name) (ascii "ENCODING")
@@ -87,17 +86,17 @@ is_faulty fit before r = is_one_of (upper r.name) before or not (is_sound fit r)
 
 -- from the left; `before` has the names of those that were looked at
 unfoldable pub first_faulty : (RawParameter → Bool) → List (List ℕ) → List RawParameter → Option ℕ
-first_faulty fit before [] = none
-first_faulty fit before (r ∷ rs) = pick (is_faulty fit before r) (some (length before)) (first_faulty fit (upper r.name ∷ before) rs)
+first_faulty fit before [] = None
+first_faulty fit before (r ∷ rs) = pick (is_faulty fit before r) (Some (length before)) (first_faulty fit (upper r.name ∷ before) rs)
 
 -- BINARY without ENCODING
 abbrev pub lacks_encoding : Option ValueType → List RawParameter → Bool
 lacks_encoding t rs = is_binary t and not (any_one is_encoding rs)
 
 abbrev pub place_of_fault : Option ℕ → Bool → Option Where
-place_of_fault (some i) lacks = some (parameter_name i)
-place_of_fault none true = some value_start
-place_of_fault none false = none
+place_of_fault (Some i) lacks = Some (parameter_name i)
+place_of_fault None true = Some value_start
+place_of_fault None false = None
 
 unfoldable pub parameters_fault : List ℕ → Option ValueType → List RawParameter → Option Where
 parameters_fault n t rs = place_of_fault (first_faulty (fits n t) [] rs) (lacks_encoding t rs)
@@ -106,6 +105,6 @@ parameters_fault n t rs = place_of_fault (first_faulty (fits n t) [] rs) (lacks_
 
 -- where 7 is, if it is; whether the value is read
 abbrev pub line_fault : Option Where → Bool → Option Fault
-line_fault (some w) read = some (fault PARAMETER w)
-line_fault none true = none
-line_fault none false = some (fault VALUE value_start)
+line_fault (Some w) read = Some (fault PARAMETER w)
+line_fault None true = None
+line_fault None false = Some (fault VALUE value_start)

@@ -3,8 +3,7 @@
 --     LineKind      the beginning of a subcomponent, the component's end, a property, or a fault
 --     line_kind     the kind of a line
 --     step          what a line of a kind does to the open components
-use Rattle.std.specs.Prelude.{Bool, true, List, [], ◌∷◌, ℕ}
-use Rattle.std.proofs.Math.Option.{Option, none, some}
+use Rattle.std.specs.Prelude.{Bool, true, List, [], ◌∷◌, ℕ, Option, None, Some}
 use Rattle.octets.specs.Ascii.{ascii}
 use Rattle.octets.specs.Pick.{pick, ◌and◌}
 use Rattle.octets.specs.Class.{upper}
@@ -43,8 +42,8 @@ abbrev pub end_kind : List ℕ → ContentLine → LineKind
 end_kind k l = pick (same (upper l.value) k) (pick (is_empty l.parameters) stops (faulty (fault PARAMETER (parameter_name 0)))) (faulty (fault FRAME line_start))
 
 abbrev pub held_by : Option Fault → Property → LineKind
-held_by none p = holds p
-held_by (some r) p = faulty r
+held_by None p = holds p
+held_by (Some r) p = faulty r
 
 abbrev pub property_kind : List ℕ → Bool → ContentLine → LineKind
 property_kind k inner l = pick (may_hold (upper l.name) (open_as k inner)) (held_by (property_fault k l) (property_of k l)) (faulty (fault FRAME line_start))
@@ -58,8 +57,8 @@ kind_by k level inner l =
     (faulty (fault NAME line_start))
 
 unfoldable pub kind_of : List ℕ → Bool → Bool → Option ContentLine → LineKind
-kind_of k level inner none = faulty (fault LINE line_start)
-kind_of k level inner (some l) = kind_by k level inner l
+kind_of k level inner None = faulty (fault LINE line_start)
+kind_of k level inner (Some l) = kind_by k level inner l
 
 abbrev pub line_kind : Edition → List ℕ → Bool → Bool → List ℕ → LineKind
 line_kind ed k level inner s = kind_of k level inner (read_line ed s)

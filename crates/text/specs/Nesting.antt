@@ -3,8 +3,7 @@
 --     method_in  whether the calendar that is open has METHOD
 --     move       what one line does to the open components, or its fault
 --     nesting    the verdict on the lines that are left, with these components open; both in an edition
-use Rattle.std.specs.Prelude.{Bool, true, false, not, List, [], ◌∷◌, ℕ, ltb, length}
-use Rattle.std.proofs.Math.Option.{Option, none, some}
+use Rattle.std.specs.Prelude.{Bool, true, false, not, List, [], ◌∷◌, ℕ, ltb, length, Option, None, Some}
 use Rattle.octets.specs.Ascii.{ascii}
 use Rattle.octets.specs.Pick.{pick, ◌and◌, ◌or◌}
 use Rattle.octets.specs.Class.{upper}
@@ -80,8 +79,8 @@ abbrev pub may_hold : List ℕ → Open → Bool
 may_hold n f = (not (is_known_property n) or may_stand f.name n) and (not f.inner or same f.name (ascii "VTIMEZONE"))
 
 abbrev pub told : Option Fault → Move → Move
-told none m = m
-told (some r) m = stop r
+told None m = m
+told (Some r) m = stop r
 
 unfoldable pub states : ContentLine → List Open → Move
 states l [] = stop (fault FRAME line_start)
@@ -104,8 +103,8 @@ move_by l st =
     (stop (fault NAME line_start))
 
 unfoldable pub move_of : Option ContentLine → List Open → Move
-move_of none st = stop (fault LINE line_start)
-move_of (some l) st = move_by l st
+move_of None st = stop (fault LINE line_start)
+move_of (Some l) st = move_by l st
 
 abbrev pub move : Edition → List ℕ → List Open → Move
 move ed s st = move_of (read_line ed s) st

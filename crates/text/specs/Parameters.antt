@@ -2,8 +2,7 @@
 --     read_parameter      a parameter with its values typed; none where one of them is bad
 --     stated_type         the type that VALUE names, or the property's default; none where VALUE names no type
 --     read_parameters     the parameters that a line states, all but VALUE, typed
-use Rattle.std.specs.Prelude.{Bool, false, not, List, [], ◌∷◌, ℕ}
-use Rattle.std.proofs.Math.Option.{Option, none, some, map}
+use Rattle.std.specs.Prelude.{Bool, false, not, List, [], ◌∷◌, ℕ, Option, None, Some, option_map}
 use Rattle.octets.specs.Ascii.{ascii}
 use Rattle.octets.specs.Pick.{pick, ◌and◌, ◌or◌}
 use Rattle.octets.specs.Class.{upper}
@@ -18,16 +17,16 @@ use Rattle.read_text_line.specs.ContentLine.{ParamValue, RawParameter}
 
 -- the value of a parameter of a type: TEXT stands as it is, with no escapes, and so does that of an unrecognised parameter
 abbrev pub read_typed : ValueType → List ℕ → Option Value
-read_typed t s = pick (same_type t TEXT) (some (text s)) (pick (same_type t UNKNOWN) (some (unknown s)) (read_value ical t s))
+read_typed t s = pick (same_type t TEXT) (Some (text s)) (pick (same_type t UNKNOWN) (Some (unknown s)) (read_value ical t s))
 
 -- a word of a closed set is read in any letter case and kept in capitals
 abbrev pub read_word : Option (List (List ℕ)) → ValueType → List ℕ → Option Value
-read_word none t s = read_typed t s
-read_word (some words) t s = provided (is_one_of (upper s) words) (text (upper s))
+read_word None t s = read_typed t s
+read_word (Some words) t s = provided (is_one_of (upper s) words) (text (upper s))
 
 -- one value of the parameter n; six parameters must be quoted
 unfoldable pub read_param_value : List ℕ → ParamValue → Option Value
-read_param_value n v = pick (not v.quoted and is_quoted_parameter n) none (read_word (parameter_words n) (parameter_type n) v.chars)
+read_param_value n v = pick (not v.quoted and is_quoted_parameter n) None (read_word (parameter_words n) (parameter_type n) v.chars)
 
 -- one value, unless the parameter is listed
 abbrev pub is_single : {A : Type 0} → List A → Bool
@@ -37,8 +36,8 @@ is_single (x ∷ l) = is_empty l
 unfoldable pub read_parameter : RawParameter → Option Parameter
 read_parameter r =
     pick (is_listed_parameter (upper r.name) or is_single r.values)
-    (map (λ vs. record { name = upper r.name; values = vs }) (read_each (read_param_value (upper r.name)) r.values))
-    none
+    (option_map (λ vs. record { name = upper r.name; values = vs }) (read_each (read_param_value (upper r.name)) r.values))
+    None
 
 -- ---- VALUE
 
@@ -47,11 +46,11 @@ is_value_parameter r = same (upper r.name) (ascii "VALUE")
 
 -- the type that VALUE's one value names, quoted or not, in any letter case
 abbrev pub type_in : List ParamValue → Option ValueType
-type_in [] = none
-type_in (v ∷ vs) = pick (is_empty vs) (type_named (upper v.chars)) none
+type_in [] = None
+type_in (v ∷ vs) = pick (is_empty vs) (type_named (upper v.chars)) None
 
 unfoldable pub stated_type : List ℕ → List RawParameter → Option ValueType
-stated_type n [] = some (default_type n)
+stated_type n [] = Some (default_type n)
 stated_type n (r ∷ rs) = pick (is_value_parameter r) (type_in r.values) (stated_type n rs)
 
 -- ---- all parameters of a property

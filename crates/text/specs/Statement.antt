@@ -1,8 +1,7 @@
 -- The property that a content line states in a component, and the faults of its parameters and its value (refusals 7 and 8).
 --     property_fault k l  the lowest refusal among PARAMETER and VALUE that the line l has in a component k, and its place in the line
 --     property_of k l     the property that it states
-use Rattle.std.specs.Prelude.{List, [], ℕ}
-use Rattle.std.proofs.Math.Option.{Option}
+use Rattle.std.specs.Prelude.{List, [], ℕ, Option}
 use Rattle.octets.specs.Class.{upper}
 use Rattle.octets.specs.Reading.{is_read, read_or}
 use Rattle.calendar.specs.Calendar.{ValueType, TEXT, Value, Property}

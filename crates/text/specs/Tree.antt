@@ -4,8 +4,7 @@
 --     own_of        the properties of a component, from the lines after its BEGIN
 --     inner_of      the components that the lines begin at depth 0
 --     calendar_of   the calendar that lines state; what stands too deep in it counts as nothing
-use Rattle.std.specs.Prelude.{List, [], ◌∷◌, map, ℕ, zero, suc}
-use Rattle.std.proofs.Math.Option.{Option, none, some}
+use Rattle.std.specs.Prelude.{List, [], ◌∷◌, map, ℕ, zero, suc, Option, None, Some}
 use Rattle.octets.specs.Ascii.{ascii}
 use Rattle.octets.specs.Pick.{pick}
 use Rattle.octets.specs.Class.{upper}
@@ -25,8 +24,8 @@ pub data Entry : Type 0 where
   nothing : Entry
 
 unfoldable pub entry_by : Option ContentLine → Entry
-entry_by none = nothing
-entry_by (some l) = pick (same (upper l.name) (ascii "BEGIN")) (begin (upper l.value)) (pick (same (upper l.name) (ascii "END")) end (property l))
+entry_by None = nothing
+entry_by (Some l) = pick (same (upper l.name) (ascii "BEGIN")) (begin (upper l.value)) (pick (same (upper l.name) (ascii "END")) end (property l))
 
 unfoldable pub entry_of : Edition → Line → Entry
 entry_of ed (loose p) = nothing

@@ -2,8 +2,7 @@
 --     entries_at mode s at    what the lines of s from a cursor on are
 --     First             the entry at a cursor, and the cursor of the next
 --     FoundAt           the contract of `entry_at`
-use Rattle.std.specs.Prelude.{◌≡◌, List, ◌∷◌, map, ℕ, ◌≤◌, ◌<◌, length, take}
-use Rattle.std.proofs.Math.Option.{some}
+use Rattle.std.specs.Prelude.{◌≡◌, List, ◌∷◌, map, ℕ, ◌≤◌, ◌<◌, length, take, Some}
 use Rattle.octets.specs.Ascii.{ascii}
 use Rattle.octets.specs.Pick.{pick}
 use Rattle.octets.specs.Class.{upper}
@@ -15,7 +14,6 @@ use Rattle.read_text_line.specs.Line.{LineAt}
 use Rattle.read_text_line.specs.LineEnd.{lines_at}
 use Rattle.read_text_line.specs.Ready.{Ready}
 use Rattle.read_text_line.specs.declared.LineCursors.{LineCursors}
-use Rattle.read_text_line.specs.declared.LineRead.TheVariants.{Line as LineThere}
 use Rattle.text.specs.Tree.{Entry, begin, end, property, nothing, entry_of}
 use Rattle.edition.specs.declared.Edition.{Edition}
 use Rattle.text_entries.specs.declared.entry.Found.{Found}
@@ -37,8 +35,8 @@ module _ (ed : Edition) where
   -- a property, the line that it is, and where its parts stand
   pub record PropertyAt (mode : ℕ) (s : List ℕ) (at : ℕ) (l : LineCursors) (e next : ℕ) : Type 0 where
     pub line : ContentLine
-    pub is : read_line ed (rest mode (take e s) at) ≡ some line
-    pub parts : LineAt mode (take e s) at (LineThere l)
+    pub is : read_line ed (rest mode (take e s) at) ≡ Some line
+    pub parts : LineAt mode (take e s) at (Some l)
     pub first : First mode s at (property line) next
 
   abbrev pub FoundBy : Kind → ℕ → List ℕ → ℕ → LineCursors → ℕ → ℕ → Type 0

@@ -7,23 +7,14 @@ ghost use Rattle.text_entries.specs.Bounds.{opens_bound, opens, BoundAt};
 use crate::entry::{Found, Kind, entry_at};
 use edition::Edition;
 use octets::unit::{LOWER_B, LOWER_E, UPPER_B, UPPER_E};
-use read_text_line::{Ending, LineCursors, line_end};
+use read_text_line::{LineCursors, line_end};
 use source::unit;
 
 // A byte that BEGIN or END can begin with.
 fn opens_bound(b: usize) -> bool
     ensures { result ≡ opens_bound b }
 {
-    if b == UPPER_B {
-        return true;
-    }
-    if b == LOWER_B {
-        return true;
-    }
-    if b == UPPER_E {
-        return true;
-    }
-    b == LOWER_E
+    b == UPPER_B || b == LOWER_B || b == UPPER_E || b == LOWER_E
 }
 
 // The line at `at`, which is neither BEGIN nor END: only its end is sought.
@@ -31,33 +22,27 @@ fn line_aside(edition: Edition, mode: usize, s: &[u8], at: usize) -> Found
     requires { Ready mode s.now at × (at < length s.now) × (opens (rest mode s.now at) ≡ false) }
     ensures { BoundAt edition mode s.now at result }
 {
-    match line_end(mode, s, at) {
-        Ending::Loose => {
-            let l = LineCursors {
+    let Some(ending) = line_end(mode, s, at) else {
+        return Found {
+            kind: Kind::Nothing,
+            line: LineCursors {
                 name: at,
                 parameters: at,
                 value: at,
-            };
-            Found {
-                kind: Kind::Nothing,
-                line: l,
-                end: at,
-                next: s.len(),
-            }
-        }
-        Ending::Whole(e, next) => {
-            let l = LineCursors {
-                name: at,
-                parameters: e,
-                value: e,
-            };
-            Found {
-                kind: Kind::Nothing,
-                line: l,
-                end: e,
-                next,
-            }
-        }
+            },
+            end: at,
+            next: s.len(),
+        };
+    };
+    Found {
+        kind: Kind::Nothing,
+        line: LineCursors {
+            name: at,
+            parameters: ending.end,
+            value: ending.end,
+        },
+        end: ending.end,
+        next: ending.next,
     }
 }
 

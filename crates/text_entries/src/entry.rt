@@ -7,10 +7,10 @@ ghost use Rattle.text_entries.specs.Entries.{kind_named, FoundAt};
 
 use edition::Edition;
 use names::is_word_any_case;
-use read_text_line::{Ending, LineCursors, LineRead, line_at, line_end};
+use read_text_line::{LineCursors, line_at, line_end};
 
 // The beginning of a component, the end of one, a property, or none of these.
-#[derive(Clone, Copy)]
+#[derive(Clone, Copy, Debug, PartialEq, Eq)]
 pub enum Kind {
     Begin,
     End,
@@ -19,7 +19,7 @@ pub enum Kind {
 }
 
 // A line: what it is, its cursors, that of its end, and that of the next line.
-#[derive(Clone, Copy)]
+#[derive(Clone, Copy, Debug, PartialEq, Eq)]
 pub struct Found {
     pub kind: Kind,
     pub line: LineCursors,
@@ -47,43 +47,35 @@ pub fn entry_at(edition: Edition, mode: usize, s: &[u8], at: usize) -> Found
     requires { Ready mode s.now at × (at < length s.now) }
     ensures { FoundAt edition mode s.now at result }
 {
-    match line_end(mode, s, at) {
-        Ending::Loose => {
-            let l = LineCursors {
+    let Some(ending) = line_end(mode, s, at) else {
+        return Found {
+            kind: Kind::Nothing,
+            line: LineCursors {
                 name: at,
                 parameters: at,
                 value: at,
-            };
-            Found {
-                kind: Kind::Nothing,
-                line: l,
-                end: at,
-                next: s.len(),
-            }
-        }
-        Ending::Whole(e, next) => match line_at(mode, &s[..e], at) {
-            LineRead::Bad => {
-                let l = LineCursors {
-                    name: at,
-                    parameters: e,
-                    value: e,
-                };
-                Found {
-                    kind: Kind::Nothing,
-                    line: l,
-                    end: e,
-                    next,
-                }
-            }
-            LineRead::Line(l) => {
-                let n = l.parameters;
-                Found {
-                    kind: kind_of(mode, &s[..n], l.name),
-                    line: l,
-                    end: e,
-                    next,
-                }
-            }
-        },
+            },
+            end: at,
+            next: s.len(),
+        };
+    };
+    let Some(l) = line_at(mode, &s[..ending.end], at) else {
+        return Found {
+            kind: Kind::Nothing,
+            line: LineCursors {
+                name: at,
+                parameters: ending.end,
+                value: ending.end,
+            },
+            end: ending.end,
+            next: ending.next,
+        };
+    };
+    let n = l.parameters;
+    Found {
+        kind: kind_of(mode, &s[..n], l.name),
+        line: l,
+        end: ending.end,
+        next: ending.next,
     }
 }

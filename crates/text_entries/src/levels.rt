@@ -9,7 +9,7 @@ use edition::Edition;
 
 // The cursor of the first subcomponent, or of what ends the component; whether there is no subcomponent; and if there is
 // none, the cursor behind the component's END.
-#[derive(Clone, Copy)]
+#[derive(Clone, Copy, Debug, PartialEq, Eq)]
 pub struct Ahead {
     pub inner: usize,
     pub bare: bool,

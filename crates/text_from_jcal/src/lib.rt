@@ -1,7 +1,7 @@
 // jCal to canonical iCalendar text. See crate calls_jcal, specs/JcalToText.antt.
 #![tactic(auto)]
 
-ghost use Rattle.std.specs.Prelude.{◌≡◌, true, false, ◌*◌, ◌≤◌, length};
+ghost use Rattle.std.specs.Prelude.{◌≡◌, true, false, ◌*◌, ◌≤◌, length, None};
 ghost use Rattle.calendar.specs.Levels.{levels};
 ghost use Rattle.calendar.specs.Refusal.{characters, fine, answer, ◌otherwise◌};
 ghost use Rattle.utf8.specs.Utf8.{first_bad};
@@ -10,7 +10,6 @@ ghost use Rattle.text.specs.WriteText.{write_calendar};
 ghost use Rattle.json_text.specs.Bytes.{most_open};
 ghost use Rattle.json_text.specs.Check.{verdict};
 ghost use Rattle.json_text.specs.Tree.{value_of};
-ghost use Rattle.json_text.specs.declared.Checked.TheVariants.{Fine};
 ghost use Rattle.jcal.specs.Components.{components_verdict, read_calendars, calendars_in};
 ghost use Rattle.jcal.specs.ReadJcal.{json};
 ghost use Rattle.calls.specs.Conversion.{converted};
@@ -19,12 +18,12 @@ ghost use Rattle.calls_jcal.specs.JcalToText.{jcal_to_text_outcome, jcal_to_text
 ghost use Rattle.lengths_jcal_text.specs.Fitting.{fits};
 ghost use Rattle.text_from_jcal.specs.Steps.{jcal_gives};
 
-use calls::{Answer, refused};
-use edition::{Edition, EditionRead, edition_of};
-use json_text::{Checked, json_fault};
-use read_jcal::{Judged, calendars_verdict};
+use calls::Answer;
+use edition::{Edition, edition_of};
+use json_text::json_fault;
+use read_jcal::calendars_verdict;
 use refusals::Refusal;
-use utf8::{Found, first_bad};
+use utf8::first_bad;
 use write_text_jcal::put_calendars;
 
 // The text of the calendars, where there is certainly room for it. `line` is the room for a line.
@@ -36,8 +35,7 @@ fn written_at_once(edition: Edition, s: &[u8], line: &mut [u8], out: &mut [u8]) 
     ensures { Done (converted (write_calendar edition)
         (answer fine (read_calendars (calendars_in (value_of s.now))))) out.old out.new result }
 {
-    let n = put_calendars(out, 0, edition, line, s);
-    Answer::Written(n)
+    Answer::Written(put_calendars(out, 0, edition, line, s))
 }
 
 // The text of the calendars: first how long it is, then, if there is room, all of it.
@@ -85,14 +83,14 @@ fn lined(edition: Edition, s: &[u8], out: &mut [u8]) -> Answer
 
 // The first fault in a text that is JSON; or the text of its calendars.
 fn judged(edition: Edition, s: &[u8], out: &mut [u8]) -> Answer
-    requires { (length s.now ≤ 65535) × (verdict most_open s.now ≡ Fine) }
+    requires { (length s.now ≤ 65535) × (verdict most_open s.now ≡ None) }
     ensures { Done (jcal_gives edition s.now
         (components_verdict edition (calendars_in (value_of s.now)) at_top levels false)) out.old
         out.new result }
 {
     match calendars_verdict(edition, s) {
-        Judged::Refused(n, p) => refused(n, p),
-        Judged::Fine => lined(edition, s, out),
+        Err(fault) => Answer::from(fault),
+        Ok(()) => lined(edition, s, out),
     }
 }
 
@@ -105,8 +103,8 @@ fn formed(edition: Edition, s: &[u8], out: &mut [u8]) -> Answer
         out.old out.new result }
 {
     match json_fault(s) {
-        Checked::At(p) => Answer::Refused(Refusal::Json, p),
-        Checked::Fine => judged(edition, s, out),
+        Some(p) => Answer::Refused(Refusal::Json, p),
+        None => judged(edition, s, out),
     }
 }
 
@@ -120,8 +118,8 @@ fn in_edition(edition: Edition, s: &[u8], out: &mut [u8]) -> Answer
         out.old out.new result }
 {
     match first_bad(s) {
-        Found::At(p) => Answer::Refused(Refusal::Character, p),
-        Found::Nothing => formed(edition, s, out),
+        Some(p) => Answer::Refused(Refusal::Character, p),
+        None => formed(edition, s, out),
     }
 }
 
@@ -130,15 +128,11 @@ pub fn jcal_to_text(input: &[u8], out: &mut [u8], edition: u32) -> Answer
     ensures { (outcome_of result ≡ jcal_to_text_outcome input.now out.old edition)
         × (out.new ≡ jcal_to_text_output input.now out.old edition) }
 {
-    if input.len() <= 65535 {
-        match edition_of(edition) {
-            EditionRead::Known(e) => {
-                return in_edition(e, input, out);
-            }
-            EditionRead::Unknown => {
-                return Answer::Refused(Refusal::Edition, 0);
-            }
-        }
+    if 65535 < input.len() {
+        return Answer::Refused(Refusal::Length, 0);
     }
-    Answer::Refused(Refusal::Length, 0)
+    match edition_of(edition) {
+        Some(e) => in_edition(e, input, out),
+        None => Answer::Refused(Refusal::Edition, 0),
+    }
 }

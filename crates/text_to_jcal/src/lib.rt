@@ -12,7 +12,7 @@ ghost use Rattle.calls_jcal.specs.ToJcal.{to_jcal_outcome, to_jcal_output, to_jc
 
 use calls::Answer;
 use edition::Edition;
-use read_text_whole::{Whole, read_whole};
+use read_text_whole::read_whole;
 use write_jcal::put_jcal;
 
 // The jCal of an unfolded text, where there is certainly room for it.
@@ -21,8 +21,7 @@ fn written_at_once(edition: Edition, kept: &[u8], out: &mut [u8]) -> Answer
     ensures { Done (converted write_jcal (answer fine (calendar_of edition (lines kept.now)))) out.old
         out.new result }
 {
-    let n = put_jcal(out, 0, edition, 0, kept);
-    Answer::Written(n)
+    Answer::Written(put_jcal(out, 0, edition, 0, kept))
 }
 
 // The jCal of an unfolded text: first how long it is, then, if there is room, all of it.
@@ -59,7 +58,7 @@ pub fn to_jcal(input: &[u8], work: &mut [u8], out: &mut [u8], edition: u32) -> A
         × (work.new ≡ to_jcal_work input.now work.old edition) }
 {
     match read_whole(input, work, edition) {
-        Whole::Kept(e, n) => written(e, &work[..n], out),
-        Whole::Refused(a) => a,
+        Ok(kept) => written(kept.edition, &work[..kept.size], out),
+        Err(fault) => Answer::from(fault),
     }
 }

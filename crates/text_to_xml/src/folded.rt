@@ -5,7 +5,7 @@ ghost use Rattle.calls.specs.Answered.{outcome_of};
 
 use crate::written;
 use calls::Answer;
-use read_text_whole::{Whole, read_folded};
+use read_text_whole::read_folded;
 
 // Converts the iCalendar text `input`, read in the edition of the number `edition`, to canonical XML in `out`.
 pub fn to_xml_folded(input: &[u8], out: &mut [u8], edition: u32) -> Answer
@@ -13,7 +13,7 @@ pub fn to_xml_folded(input: &[u8], out: &mut [u8], edition: u32) -> Answer
         × (out.new ≡ to_xml_folded_output input.now out.old edition) }
 {
     match read_folded(input, edition) {
-        Whole::Kept(e, _) => written(e, 2, input, out),
-        Whole::Refused(a) => a,
+        Ok(kept) => written(kept.edition, 2, input, out),
+        Err(fault) => Answer::from(fault),
     }
 }

@@ -16,7 +16,7 @@ ghost use Rattle.calls.specs.Answered.{outcome_of, Done};
 use calls::Answer;
 use edition::Edition;
 pub use folded::to_xml_folded;
-use read_text_whole::{Whole, read_whole};
+use read_text_whole::read_whole;
 use write_xml::put_document;
 
 // The XML of a text, where there is certainly room for it.
@@ -25,8 +25,7 @@ fn written_at_once(edition: Edition, mode: usize, s: &[u8], out: &mut [u8]) -> A
     ensures { Done (converted write_document (answer fine (calendar_of edition (lines (rest mode s.now 0)))))
         out.old out.new result }
 {
-    let n = put_document(out, 0, edition, mode, s);
-    Answer::Written(n)
+    Answer::Written(put_document(out, 0, edition, mode, s))
 }
 
 // The XML of a text: first how long it is, then, if there is room, all of it.
@@ -63,7 +62,7 @@ pub fn to_xml(input: &[u8], work: &mut [u8], out: &mut [u8], edition: u32) -> An
         × (work.new ≡ to_xml_work input.now work.old edition) }
 {
     match read_whole(input, work, edition) {
-        Whole::Kept(e, n) => written(e, 0, &work[..n], out),
-        Whole::Refused(a) => a,
+        Ok(kept) => written(kept.edition, 0, &work[..kept.size], out),
+        Err(fault) => Answer::from(fault),
     }
 }

@@ -3,8 +3,7 @@
 --     read_binary f s  the characters; from xCal without white space
 --     base64_value b   what a character is worth, RFC 4648, table 1
 -- It goes a character at a time, as the code does. BinaryGrammar says the same group by group, as the RFC does.
-use Rattle.std.specs.Prelude.{Bool, List, [], ◌∷◌, ℕ, ◌+◌, ◌-◌, ◌%◌, eqb, ltb}
-use Rattle.std.proofs.Math.Option.{Option}
+use Rattle.std.specs.Prelude.{Bool, List, [], ◌∷◌, ℕ, ◌+◌, ◌-◌, ◌%◌, eqb, ltb, Option}
 use Rattle.octets.specs.Pick.{pick, ◌and◌, ◌or◌}
 use Rattle.octets.specs.Class.{is_alpha, is_capital, is_small, is_digit, is_space}
 use Rattle.octets.specs.Reading.{provided}

@@ -1,6 +1,5 @@
 -- Computed examples.
-use Rattle.std.specs.Prelude.{◌≡◌, refl, true, false, [], ◌∷◌, map}
-use Rattle.std.proofs.Math.Option.{none, some}
+use Rattle.std.specs.Prelude.{◌≡◌, refl, true, false, [], ◌∷◌, map, None, Some}
 use Rattle.octets.specs.Ascii.{ascii}
 use Rattle.octets.specs.Reading.{or_nothing}
 use Rattle.calendar.specs.Calendar.{request_status, ical, xcal}
@@ -18,7 +17,7 @@ use Rattle.texts.specs.Computing.{texts_compute}
 
 texts_read :
     map read_text (ascii "a\\,b\\Nc" ∷ ascii "\\\\\\;\\n" ∷ [] ∷ ascii "a:\"b\"" ∷ ascii "a,b" ∷ ascii "a;b" ∷ ascii "a\\" ∷ ascii "a\\x" ∷ ascii "\\\\," ∷ [])
-    ≡ (some (ascii "a,b\nc") ∷ some (ascii "\\;\n") ∷ some [] ∷ some (ascii "a:\"b\"") ∷ none ∷ none ∷ none ∷ none ∷ none ∷ [])
+    ≡ (Some (ascii "a,b\nc") ∷ Some (ascii "\\;\n") ∷ Some [] ∷ Some (ascii "a:\"b\"") ∷ None ∷ None ∷ None ∷ None ∷ None ∷ [])
 unfolding texts_compute
 texts_read = refl
 
@@ -28,7 +27,7 @@ texts_written = refl
 
 lists_read :
     map read_texts (ascii "a,b" ∷ [] ∷ ascii "," ∷ ascii "a\\,b,,c\\n" ∷ ascii "a;b" ∷ ascii "a,b\\" ∷ [])
-    ≡ (some (ascii "a" ∷ ascii "b" ∷ []) ∷ some ([] ∷ []) ∷ some ([] ∷ [] ∷ []) ∷ some (ascii "a,b" ∷ [] ∷ ascii "c\n" ∷ []) ∷ none ∷ none ∷ [])
+    ≡ (Some (ascii "a" ∷ ascii "b" ∷ []) ∷ Some ([] ∷ []) ∷ Some ([] ∷ [] ∷ []) ∷ Some (ascii "a,b" ∷ [] ∷ ascii "c\n" ∷ []) ∷ None ∷ None ∷ [])
 unfolding texts_compute
 lists_read = refl
 
@@ -38,13 +37,13 @@ lists_written = refl
 
 statuses_read :
     map read_request_status (ascii "2.0;Success" ∷ ascii "2.0;x;" ∷ ascii "2.0;" ∷ ascii "3.1;a\\;b;c\\,\\n" ∷ ascii "2.0" ∷ ascii "2.0;a;b;c" ∷ ascii "2.0;a,b" ∷ ascii ";" ∷ [])
-    ≡ (some (request_status (ascii "2.0") (ascii "Success") none) ∷ some (request_status (ascii "2.0") (ascii "x") (some []))
-    ∷ some (request_status (ascii "2.0") [] none) ∷ some (request_status (ascii "3.1") (ascii "a;b") (some (ascii "c,\n")))
-    ∷ none ∷ none ∷ none ∷ some (request_status [] [] none) ∷ [])
+    ≡ (Some (request_status (ascii "2.0") (ascii "Success") None) ∷ Some (request_status (ascii "2.0") (ascii "x") (Some []))
+    ∷ Some (request_status (ascii "2.0") [] None) ∷ Some (request_status (ascii "3.1") (ascii "a;b") (Some (ascii "c,\n")))
+    ∷ None ∷ None ∷ None ∷ Some (request_status [] [] None) ∷ [])
 unfolding texts_compute
 statuses_read = refl
 
-status_written : write_request_status (ascii "3.1") (ascii "a;b") (some (ascii "c,\n")) ≡ ascii "3.1;a\\;b;c\\,\\n"
+status_written : write_request_status (ascii "3.1") (ascii "a;b") (Some (ascii "c,\n")) ≡ ascii "3.1;a\\;b;c\\,\\n"
 unfolding texts_compute
 status_written = refl
 
@@ -67,7 +66,7 @@ uris :
 unfolding texts_compute
 uris = refl
 
-uris_read : map read_uri (ascii "CID:x" ∷ ascii "x" ∷ []) ≡ (some (ascii "CID:x") ∷ none ∷ [])
+uris_read : map read_uri (ascii "CID:x" ∷ ascii "x" ∷ []) ≡ (Some (ascii "CID:x") ∷ None ∷ [])
 unfolding texts_compute
 uris_read = refl
 
@@ -81,8 +80,8 @@ unfolding texts_compute
 binaries = refl
 
 binaries_read :
-    (map (read_binary ical) (ascii "Zm 9v" ∷ ascii "Zm9v" ∷ []) ≡ (none ∷ some (ascii "Zm9v") ∷ []))
-    × (map (read_binary xcal) (ascii "\t Zm\n9\r\nv " ∷ ascii " " ∷ ascii "Zm9" ∷ []) ≡ (some (ascii "Zm9v") ∷ some [] ∷ none ∷ []))
+    (map (read_binary ical) (ascii "Zm 9v" ∷ ascii "Zm9v" ∷ []) ≡ (None ∷ Some (ascii "Zm9v") ∷ []))
+    × (map (read_binary xcal) (ascii "\t Zm\n9\r\nv " ∷ ascii " " ∷ ascii "Zm9" ∷ []) ≡ (Some (ascii "Zm9v") ∷ Some [] ∷ None ∷ []))
 unfolding texts_compute
 binaries_read = (refl, refl)
 
@@ -90,7 +89,7 @@ base64_values : map base64_value (ascii "AZaz09+/=") ≡ (0 ∷ 25 ∷ 26 ∷ 51
 unfolding texts_compute
 base64_values = refl
 
-unknowns_read : map read_unknown (ascii "a\\,;:\"" ∷ [] ∷ ascii "a\nb" ∷ []) ≡ (some (ascii "a\\,;:\"") ∷ some [] ∷ none ∷ [])
+unknowns_read : map read_unknown (ascii "a\\,;:\"" ∷ [] ∷ ascii "a\nb" ∷ []) ≡ (Some (ascii "a\\,;:\"") ∷ Some [] ∷ None ∷ [])
 unfolding texts_compute
 unknowns_read = refl
 

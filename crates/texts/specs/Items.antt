@@ -1,8 +1,7 @@
 -- The items of a list of TEXT (TextList), each found at a cursor: an item goes to the next bare separator, or to the end.
 --     item_from, behind_from   the bytes of the item, and those from its separator on
 --     ItemEnds                 the contract of `item_end`: the item at the cursor c ends at the cursor r
-use Rattle.std.specs.Prelude.{◌≡◌, Bool, true, false, List, [], ◌∷◌, ℕ, ◌*◌, max, ◌≤◌, eqb, length}
-use Rattle.std.proofs.Math.Option.{Option, some}
+use Rattle.std.specs.Prelude.{◌≡◌, Bool, true, false, List, [], ◌∷◌, ℕ, ◌*◌, max, ◌≤◌, eqb, length, Option, Some}
 use Rattle.octets.specs.Pick.{pick, ◌and◌}
 use Rattle.source.specs.Source.{rest, cuts, Reach}
 use Rattle.texts.specs.Text.{is_break, opens, split_text}
@@ -21,7 +20,7 @@ behind_from after c (b ∷ s) = pick (is_between after c b) (b ∷ s) (behind_fr
 
 -- what is read behind an item: nothing more, or the items behind its separator
 abbrev pub pieces_behind : ℕ → List ℕ → Option (List (List ℕ))
-pieces_behind c [] = some []
+pieces_behind c [] = Some []
 pieces_behind c (x ∷ s) = split_text c s
 
 -- ---- an item at a cursor

@@ -10,7 +10,6 @@
 --     Unknown         values of the type unknown
 --     Quoting         parameter values between double quotes
 --     Unescaped       TEXT followed a byte at a time
---     Kept            the answer of a reader of characters, and its loops
 --     Items           the items of a list of TEXT, found at a cursor
 --     StatusParts     the parts of a REQUEST-STATUS, found at a cursor
 --     Elements        TEXT written as elements of XML
@@ -30,7 +29,6 @@ pub mod BinaryGrammar
 pub mod Unknown
 pub mod Quoting
 pub mod Unescaped
-pub mod Kept
 pub mod Items
 pub mod StatusParts
 pub mod Elements

@@ -1,15 +1,14 @@
 -- The parts of a REQUEST-STATUS (RequestStatus), found at a cursor.
 --     in_parts, soon_over  by what stands behind the first part: two or three parts in all; at most one part more
 --     StatusEnds           the contract of `read_request_status`; PartEnds, the cursors of the parts
-use Rattle.std.specs.Prelude.{◌≡◌, Bool, true, false, List, [], ◌∷◌, ℕ, ◌≤◌, length}
+use Rattle.std.specs.Prelude.{◌≡◌, Bool, true, false, List, [], ◌∷◌, ℕ, ◌≤◌, length, Option, None, Some, is_some}
 use Rattle.octets.specs.Words.{is_empty}
 use Rattle.octets.specs.Reading.{is_read}
 use Rattle.source.specs.Source.{rest, cuts}
 use Rattle.texts.specs.Text.{split_text}
 use Rattle.texts.specs.RequestStatus.{read_request_status}
 use Rattle.texts.specs.Items.{behind_from, pieces_behind, ItemEnds}
-use Rattle.texts.specs.declared.Status.{Status}
-use Rattle.texts.specs.declared.Status.TheVariants.{Parts, NoStatus}
+use Rattle.texts.specs.declared.StatusParts.{StatusParts}
 
 -- at most one part more
 abbrev pub soon_over : List ℕ → Bool
@@ -30,18 +29,14 @@ pub record PartEnds (m : ℕ) (s : List ℕ) (c a d b : ℕ) : Type 0 where
   pub plain : cuts m ≡ true → d ≤ length s
   pub description : ItemEnds 59 m s d b
 
-abbrev pub is_status : Status → Bool
-is_status (Parts a d b) = true
-is_status NoStatus = false
+abbrev pub HasParts : ℕ → List ℕ → ℕ → Option StatusParts → Type 0
+HasParts m s c None = Unit {0}
+HasParts m s c (Some p) = PartEnds m s c p.code_end p.description p.description_end
 
-abbrev pub StatusParts : ℕ → List ℕ → ℕ → Status → Type 0
-StatusParts m s c (Parts a d b) = PartEnds m s c a d b
-StatusParts m s c NoStatus = Unit {0}
+pub record PartsFound (m : ℕ) (s : List ℕ) (c : ℕ) (r : Option StatusParts) : Type 0 where
+  pub is : is_some r ≡ in_parts (behind_from false 59 (rest m s c))
+  pub parts : HasParts m s c r
 
-pub record PartsFound (m : ℕ) (s : List ℕ) (c : ℕ) (r : Status) : Type 0 where
-  pub is : is_status r ≡ in_parts (behind_from false 59 (rest m s c))
-  pub parts : StatusParts m s c r
-
-pub record StatusEnds (m : ℕ) (s : List ℕ) (c : ℕ) (r : Status) : Type 0 where
-  pub is : is_status r ≡ is_read (read_request_status (rest m s c))
-  pub parts : StatusParts m s c r
+pub record StatusEnds (m : ℕ) (s : List ℕ) (c : ℕ) (r : Option StatusParts) : Type 0 where
+  pub is : is_some r ≡ is_read (read_request_status (rest m s c))
+  pub parts : HasParts m s c r

@@ -1,8 +1,7 @@
 -- A REQUEST-STATUS of iCalendar text written as elements of XML (RFC 6321, section 3.4.1.3).
 --     status_xml    `code`, `description` and, where there is one, `data`
 --     data_behind   the element `data`, by what stands behind the second part
-use Rattle.std.specs.Prelude.{List, [], ◌∷◌, ℕ, take}
-use Rattle.std.proofs.Math.Option.{Option, none, some}
+use Rattle.std.specs.Prelude.{List, [], ◌∷◌, ℕ, take, Option, None, Some}
 use Rattle.octets.specs.Ascii.{ascii}
 use Rattle.octets.specs.Append.{◌⊕◌}
 use Rattle.octets.specs.Reading.{or_nothing}
@@ -12,8 +11,8 @@ use Rattle.xml.specs.Escape.{escaped, element_of}
 use Rattle.texts.specs.Text.{read_text}
 
 abbrev pub data_element : Option (List ℕ) → List ℕ
-data_element none = []
-data_element (some x) = element_of (ascii "data") (escaped x)
+data_element None = []
+data_element (Some x) = element_of (ascii "data") (escaped x)
 
 unfoldable pub status_xml : Value → List ℕ
 status_xml (request_status c d x) = element_of (ascii "code") (escaped c) ⊕ element_of (ascii "description") (escaped d) ⊕ data_element x

@@ -4,8 +4,7 @@
 --     read_text s      one TEXT, unescaped
 --     write_text s     escaped
 -- It goes a byte at a time, as the code does. TextGrammar says the same as the RFC does.
-use Rattle.std.specs.Prelude.{Bool, false, List, [], ◌∷◌, ℕ, eqb}
-use Rattle.std.proofs.Math.Option.{Option, none, some}
+use Rattle.std.specs.Prelude.{Bool, false, List, [], ◌∷◌, ℕ, eqb, Option, None, Some}
 use Rattle.octets.specs.Pick.{pick, ◌or◌}
 use Rattle.octets.specs.Append.{◌⊕◌}
 use Rattle.octets.specs.Words.{onto}
@@ -47,18 +46,18 @@ opens after b = pick after false (eqb b 92)
 
 -- one byte more in the first piece
 unfoldable pub onto_read : ℕ → Option (List (List ℕ)) → Option (List (List ℕ))
-onto_read b none = none
-onto_read b (some ps) = some (onto b ps)
+onto_read b None = None
+onto_read b (Some ps) = Some (onto b ps)
 
 -- the pieces that follow a sign, with what it adds
 abbrev pub with_sign : Sign → Option (List (List ℕ)) → Option (List (List ℕ))
 with_sign (char b) ps = onto_read b ps
 with_sign opening ps = ps
 with_sign separator ps = cons_read [] ps
-with_sign fault ps = none
+with_sign fault ps = None
 
 unfoldable pub split_from : Bool → ℕ → List ℕ → Option (List (List ℕ))
-split_from after c [] = pick after none (some ([] ∷ []))
+split_from after c [] = pick after None (Some ([] ∷ []))
 split_from after c (b ∷ s) = with_sign (sign_of after c b) (split_from (opens after b) c s)
 
 abbrev pub split_text : ℕ → List ℕ → Option (List (List ℕ))
@@ -66,11 +65,11 @@ split_text c s = split_from false c s
 
 -- the only one of a list
 abbrev pub with_none : List ℕ → List (List ℕ) → Option (List ℕ)
-with_none p [] = some p
-with_none p (q ∷ ps) = none
+with_none p [] = Some p
+with_none p (q ∷ ps) = None
 
 abbrev pub alone : List (List ℕ) → Option (List ℕ)
-alone [] = none
+alone [] = None
 alone (p ∷ ps) = with_none p ps
 
 abbrev pub read_text : List ℕ → Option (List ℕ)

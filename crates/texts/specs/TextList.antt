@@ -1,8 +1,7 @@
 -- Lists of TEXT, of CATEGORIES (RFC 5545, section 3.8.1.2) and RESOURCES (3.8.1.10), as iCalendar text writes them. In xCal each has its own element.
 --     read_texts s     the texts between bare commas; a bare semicolon is a fault; no bytes are one empty text, and empty texts count
 --     write_texts ts   escaped, with commas between them
-use Rattle.std.specs.Prelude.{List, map, ℕ}
-use Rattle.std.proofs.Math.Option.{Option}
+use Rattle.std.specs.Prelude.{List, map, ℕ, Option}
 use Rattle.octets.specs.Words.{joined_by}
 use Rattle.texts.specs.Text.{split_text, write_text}
 

@@ -1,7 +1,6 @@
 -- Values of the type `unknown` (RFC 6321, section 5): raw, any bytes without LF, in text and in xCal alike.
 --     is_unknown s, read_unknown s
-use Rattle.std.specs.Prelude.{Bool, true, false, List, ℕ}
-use Rattle.std.proofs.Math.Option.{Option}
+use Rattle.std.specs.Prelude.{Bool, true, false, List, ℕ, Option}
 use Rattle.octets.specs.Pick.{pick}
 use Rattle.octets.specs.Words.{holds}
 use Rattle.octets.specs.Reading.{provided}

@@ -2,8 +2,7 @@
 --     is_uri s     a scheme, a colon, then characters of a URI
 --     read_uri s   the characters
 -- It goes a character at a time, as the code does. UriGrammar says the same as the RFC does.
-use Rattle.std.specs.Prelude.{Bool, false, List, [], ◌∷◌, ℕ, eqb}
-use Rattle.std.proofs.Math.Option.{Option}
+use Rattle.std.specs.Prelude.{Bool, false, List, [], ◌∷◌, ℕ, eqb, Option}
 use Rattle.octets.specs.Pick.{pick, ◌and◌, ◌or◌}
 use Rattle.octets.specs.Class.{is_alpha, is_digit, is_visible}
 use Rattle.octets.specs.Reading.{provided}

@@ -11,7 +11,7 @@
 --     Unknown        values of the type unknown
 --     Quoting        parameter values between double quotes
 --     Unescaped      TEXT followed a byte at a time
---     Kept           the answer of a reader of characters, and its loops
+--     Kept           the loops that read values kept by their characters
 --     Written        TEXT written
 --     Items          the items of a list of TEXT, found at a cursor
 --     StatusParts    the parts of a REQUEST-STATUS, found at a cursor

@@ -1,13 +1,13 @@
 // BINARY. See specs/Binary.antt.
+#![tactic(auto, unfolding(octets::specs::Computing::octets_compute))]
+
 ghost use Rattle.std.specs.Prelude.{◌≡◌, ◌≤◌, eqb};
 ghost use Rattle.octets.specs.Pick.{◌or◌, ◌and◌};
 ghost use Rattle.octets.specs.Class.{is_space};
 ghost use Rattle.calendar.specs.Calendar.{format_of};
 ghost use Rattle.source.specs.Source.{rest};
-ghost use Rattle.texts.specs.Kept.{is_kept};
 ghost use Rattle.texts.specs.Binary.{is_base64_char, base64_value, pad_fits, in_group, next_place, binary_chars, is_binary};
 
-use crate::Kept;
 use bits::low_bits;
 use octets::unit::{END, EQUALS, LOWER_A, PLUS, SLASH, UPPER_A};
 use octets::{is_alpha, is_capital, is_digit, is_small, is_space};
@@ -19,16 +19,7 @@ const SMALL_BASE: usize = LOWER_A - 26;
 fn is_base64(u: usize) -> bool
     ensures { result ≡ is_base64_char u }
 {
-    if is_alpha(u) {
-        return true;
-    }
-    if is_digit(u) {
-        return true;
-    }
-    if u == PLUS {
-        return true;
-    }
-    u == SLASH
+    is_alpha(u) || is_digit(u) || u == PLUS || u == SLASH
 }
 
 // What a character is worth: A to Z are worth 0 to 25, a to z 26 to 51, 0 to 9 52 to 61.
@@ -57,16 +48,12 @@ fn worth(u: usize) -> usize
 fn pad_fits(n: usize, last: usize) -> bool
     ensures { result ≡ pad_fits n last }
 {
-    if n == 4 {
-        return true;
+    match n {
+        4 => true,
+        2 => low_bits(worth(last), 4) == 0,
+        3 => low_bits(worth(last), 2) == 0,
+        _ => false,
     }
-    if n == 2 {
-        return low_bits(worth(last), 4) == 0;
-    }
-    if n == 3 {
-        return low_bits(worth(last), 2) == 0;
-    }
-    false
 }
 
 fn in_group(n: usize, last: usize, u: usize) -> bool
@@ -75,10 +62,7 @@ fn in_group(n: usize, last: usize, u: usize) -> bool
     if u == EQUALS {
         return pad_fits(n, last);
     }
-    if is_base64(u) {
-        return n < 4;
-    }
-    false
+    is_base64(u) && n < 4
 }
 
 // The place after a character.
@@ -86,60 +70,47 @@ fn next_place(n: usize, u: usize) -> usize
     requires { n ≤ 5 }
     ensures { result ≡ next_place n u }
 {
-    if u == EQUALS {
-        if n == 2 {
-            return 4;
-        }
-        return 5;
+    match (u, n) {
+        (EQUALS, 2) => 4,
+        (EQUALS, _) => 5,
+        (_, 3) => 0,
+        _ => n + 1,
     }
-    if n == 3 {
-        return 0;
-    }
-    n + 1
 }
 
 // Whether a character is passed over: white space, in XML.
 pub fn is_passed(xcal: bool, u: usize) -> bool
     ensures { result ≡ (xcal and is_space u) }
 {
-    if xcal {
-        return is_space(u);
-    }
-    false
+    xcal && is_space(u)
 }
 
-fn ended(n: usize) -> Kept
-    ensures { is_kept result ≡ (eqb n 0 or eqb n 5) }
+// Whether the last group is whole.
+fn is_whole(n: usize) -> bool
+    ensures { result ≡ (eqb n 0 or eqb n 5) }
 {
-    if n == 0 {
-        return Kept::Good;
-    }
-    if n == 5 {
-        return Kept::Good;
-    }
-    Kept::Bad
+    n == 0 || n == 5
 }
 
-pub fn read_binary(xcal: bool, mode: usize, s: &[u8], at: usize) -> Kept
-    ensures { is_kept result ≡ is_binary (binary_chars (format_of xcal) (rest mode s.now at)) }
+pub fn read_binary(xcal: bool, mode: usize, s: &[u8], at: usize) -> bool
+    ensures { result ≡ is_binary (binary_chars (format_of xcal) (rest mode s.now at)) }
 {
     let mut n = 0;
     let mut last = 0;
     let mut c = at;
     loop {
         let t = unit(mode, s, c);
-        let u = t.u;
-        if u == END {
-            return ended(n);
+        if t.u == END {
+            return is_whole(n);
         }
-        if is_passed(xcal, u) {
+        if is_passed(xcal, t.u) {
             c = t.next;
-        } else if in_group(n, last, u) {
-            n = next_place(n, u);
-            last = u;
+        } else if in_group(n, last, t.u) {
+            n = next_place(n, t.u);
+            last = t.u;
             c = t.next;
         } else {
-            return Kept::Bad;
+            return false;
         }
     }
 }

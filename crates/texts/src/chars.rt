@@ -11,7 +11,6 @@ ghost use Rattle.texts.specs.Binary.{binary_chars, read_binary};
 ghost use Rattle.texts.specs.Chars.{as_is, as_is_byte};
 
 use crate::binary::{is_passed, read_binary};
-use crate::is_kept;
 use crate::unknown::read_unknown;
 use crate::uri::read_uri;
 use octets::unit::END;
@@ -32,11 +31,10 @@ fn put_chars(out: &mut [u8], at: usize, mode: usize, s: &[u8], from: usize) -> u
     let mut c = from;
     loop {
         let t = unit(mode, s, c);
-        let u = t.u;
-        if u == END {
+        if t.u == END {
             return o;
         }
-        o = put_byte(out, o, u as u8);
+        o = put_byte(out, o, t.u as u8);
         c = t.next;
     }
 }
@@ -45,8 +43,7 @@ fn put_chars(out: &mut [u8], at: usize, mode: usize, s: &[u8], from: usize) -> u
 pub fn put_uri(out: &mut [u8], at: usize, mode: usize, s: &[u8], from: usize) -> usize
     ensures { Put out.old out.new at result (or_nothing as_is (read_uri (rest mode s.now from))) }
 {
-    let k = read_uri(mode, s, from);
-    if is_kept(k) {
+    if read_uri(mode, s, from) {
         return put_chars(out, at, mode, s, from);
     }
     at
@@ -57,8 +54,7 @@ pub fn put_uri_xml(out: &mut [u8], at: usize, mode: usize, s: &[u8], from: usize
     ensures { Put out.old out.new at result
         (or_nothing escaped (read_uri (rest mode s.now from))) }
 {
-    let k = read_uri(mode, s, from);
-    if is_kept(k) {
+    if read_uri(mode, s, from) {
         return put_escaped(out, at, mode, s, from);
     }
     at
@@ -69,8 +65,7 @@ pub fn put_unknown(out: &mut [u8], at: usize, mode: usize, s: &[u8], from: usize
     ensures { Put out.old out.new at result
         (or_nothing as_is (read_unknown (rest mode s.now from))) }
 {
-    let k = read_unknown(mode, s, from);
-    if is_kept(k) {
+    if read_unknown(mode, s, from) {
         return put_chars(out, at, mode, s, from);
     }
     at
@@ -81,8 +76,7 @@ pub fn put_unknown_xml(out: &mut [u8], at: usize, mode: usize, s: &[u8], from: u
     ensures { Put out.old out.new at result
         (or_nothing escaped (read_unknown (rest mode s.now from))) }
 {
-    let k = read_unknown(mode, s, from);
-    if is_kept(k) {
+    if read_unknown(mode, s, from) {
         return put_escaped(out, at, mode, s, from);
     }
     at
@@ -96,14 +90,13 @@ fn put_base64(out: &mut [u8], at: usize, xcal: bool, mode: usize, s: &[u8], from
     let mut c = from;
     loop {
         let t = unit(mode, s, c);
-        let u = t.u;
-        if u == END {
+        if t.u == END {
             return o;
         }
-        if is_passed(xcal, u) {
+        if is_passed(xcal, t.u) {
             c = t.next;
         } else {
-            o = put(out, o, u as u8);
+            o = put(out, o, t.u as u8);
             c = t.next;
         }
     }
@@ -121,8 +114,7 @@ pub fn put_binary(
     ensures { Put out.old out.new at result
         (or_nothing as_is (read_binary (format_of xcal) (rest mode s.now from))) }
 {
-    let k = read_binary(xcal, mode, s, from);
-    if is_kept(k) {
+    if read_binary(xcal, mode, s, from) {
         return put_base64(out, at, xcal, mode, s, from);
     }
     at

@@ -9,7 +9,6 @@ ghost use Rattle.texts.specs.Text.{read_text};
 ghost use Rattle.texts.specs.TextList.{read_texts};
 ghost use Rattle.texts.specs.Elements.{texts_xml};
 
-use crate::is_kept;
 use crate::items::item_end;
 use crate::text::read_text;
 use crate::written::put_text_xml;
@@ -56,8 +55,7 @@ fn put_items_xml(out: &mut [u8], at: usize, mode: usize, s: &[u8], from: usize) 
         let e = item_end(COMMA, mode, s, c);
         o = put_item_xml(out, o, mode, s, c, e);
         let n = unit(mode, s, e);
-        let u = n.u;
-        if u == END {
+        if n.u == END {
             return o;
         }
         c = n.next;
@@ -70,8 +68,7 @@ pub fn put_texts_xml(out: &mut [u8], at: usize, mode: usize, s: &[u8], from: usi
     ensures { Put out.old out.new at result
         (or_nothing texts_xml (read_texts (rest mode s.now from))) }
 {
-    let k = read_text(COMMA, mode, s, from);
-    if is_kept(k) {
+    if read_text(COMMA, mode, s, from) {
         return put_items_xml(out, at, mode, s, from);
     }
     at

@@ -1,4 +1,6 @@
 // The items of a list of TEXT, and the parts of a REQUEST-STATUS, found at a cursor. See specs/Items.antt.
+#![tactic(auto, unfolding(octets::specs::Computing::octets_compute))]
+
 ghost use Rattle.std.specs.Prelude.{◌≡◌};
 ghost use Rattle.texts.specs.Items.{is_between, ItemEnds};
 
@@ -10,13 +12,7 @@ use source::unit;
 fn is_between(after: bool, sep: usize, u: usize) -> bool
     ensures { result ≡ is_between after sep u }
 {
-    if after {
-        return false;
-    }
-    if u == sep {
-        return is_break(u);
-    }
-    false
+    !after && u == sep && is_break(u)
 }
 
 // The cursor of the first bare separator from the cursor `at` on, or of the end.
@@ -26,15 +22,11 @@ pub fn item_end(sep: usize, mode: usize, s: &[u8], at: usize) -> usize
     let mut after = false;
     let mut c = at;
     loop {
-        let n = unit(mode, s, c);
-        let u = n.u;
-        if u == END {
+        let t = unit(mode, s, c);
+        if t.u == END || is_between(after, sep, t.u) {
             return c;
         }
-        if is_between(after, sep, u) {
-            return c;
-        }
-        after = is_opening(after, u);
-        c = n.next;
+        after = is_opening(after, t.u);
+        c = t.next;
     }
 }

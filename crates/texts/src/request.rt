@@ -7,10 +7,10 @@ ghost use Rattle.texts.specs.RequestStatus.{read_request_status};
 ghost use Rattle.texts.specs.StatusParts.{soon_over, PartsFound, StatusEnds};
 ghost use Rattle.texts.specs.StatusXml.{status_xml, data_behind, parts_xml};
 
+use crate::StatusParts;
 use crate::elements::put_text_element;
 use crate::items::item_end;
 use crate::text::read_text;
-use crate::{Status, is_kept};
 use markup::element;
 use octets::unit::{END, SEMICOLON};
 use source::unit;
@@ -19,45 +19,38 @@ use source::unit;
 fn is_soon_over(mode: usize, s: &[u8], at: usize) -> bool
     ensures { result ≡ soon_over (rest mode s.now at) }
 {
-    let n = unit(mode, s, at);
-    let u = n.u;
-    if u == END {
+    let separator = unit(mode, s, at);
+    if separator.u == END {
         return true;
     }
-    let e = item_end(SEMICOLON, mode, s, n.next);
-    let w = unit(mode, s, e);
-    let v = w.u;
-    if v == END {
-        return true;
-    }
-    false
+    let end = item_end(SEMICOLON, mode, s, separator.next);
+    unit(mode, s, end).u == END
 }
 
-fn find_parts(mode: usize, s: &[u8], at: usize) -> Status
+fn find_parts(mode: usize, s: &[u8], at: usize) -> Option<StatusParts>
     ensures { PartsFound mode s.now at result }
 {
-    let a = item_end(SEMICOLON, mode, s, at);
-    let n = unit(mode, s, a);
-    let u = n.u;
-    if u == END {
-        return Status::NoStatus;
+    let code_end = item_end(SEMICOLON, mode, s, at);
+    let separator = unit(mode, s, code_end);
+    if separator.u == END {
+        return None;
     }
-    let d = n.next;
-    let b = item_end(SEMICOLON, mode, s, d);
-    if is_soon_over(mode, s, b) {
-        return Status::Parts(a, d, b);
-    }
-    Status::NoStatus
+    let description = separator.next;
+    let description_end = item_end(SEMICOLON, mode, s, description);
+    is_soon_over(mode, s, description_end).then_some(StatusParts {
+        code_end,
+        description,
+        description_end,
+    })
 }
 
-pub fn read_request_status(mode: usize, s: &[u8], at: usize) -> Status
+pub fn read_request_status(mode: usize, s: &[u8], at: usize) -> Option<StatusParts>
     ensures { StatusEnds mode s.now at result }
 {
-    let k = read_text(SEMICOLON, mode, s, at);
-    if is_kept(k) {
+    if read_text(SEMICOLON, mode, s, at) {
         return find_parts(mode, s, at);
     }
-    Status::NoStatus
+    None
 }
 
 // The element `data`, where a semicolon stands at the cursor.
@@ -65,8 +58,7 @@ fn put_data_xml(out: &mut [u8], at: usize, mode: usize, s: &[u8], from: usize) -
     ensures { Put out.old out.new at result (data_behind (rest mode s.now from)) }
 {
     let n = unit(mode, s, from);
-    let u = n.u;
-    if u == END {
+    if n.u == END {
         return at;
     }
     put_text_element(out, at, &element::DATA, mode, s, n.next, s.len())
@@ -78,15 +70,23 @@ fn put_parts_xml(
     mode: usize,
     s: &[u8],
     from: usize,
-    a: usize,
-    d: usize,
-    b: usize,
+    parts: StatusParts,
 ) -> usize
-    ensures { Put out.old out.new at result (parts_xml mode s.now from a d b) }
+    ensures { Put out.old out.new at result
+        (parts_xml mode s.now from parts.code_end parts.description parts.description_end) }
 {
-    let o = put_text_element(out, at, &element::CODE, mode, s, from, a);
-    let e = put_text_element(out, o, &element::DESCRIPTION, mode, s, d, b);
-    put_data_xml(out, e, mode, s, b)
+    let end = parts.description_end;
+    let o = put_text_element(out, at, &element::CODE, mode, s, from, parts.code_end);
+    let e = put_text_element(
+        out,
+        o,
+        &element::DESCRIPTION,
+        mode,
+        s,
+        parts.description,
+        end,
+    );
+    put_data_xml(out, e, mode, s, end)
 }
 
 // A REQUEST-STATUS as its elements; nothing where it is none.
@@ -101,8 +101,8 @@ pub fn put_request_status_xml(
     ensures { Put out.old out.new at result
         (or_nothing status_xml (read_request_status (rest mode s.now from))) }
 {
-    let Status::Parts(a, d, b) = read_request_status(mode, s, from) else {
+    let Some(parts) = read_request_status(mode, s, from) else {
         return at;
     };
-    put_parts_xml(out, at, mode, s, from, a, d, b)
+    put_parts_xml(out, at, mode, s, from, parts)
 }

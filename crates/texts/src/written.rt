@@ -1,4 +1,6 @@
 // TEXT written: unescaped, as XML's character data; and escaped, as iCalendar text. See specs/laws/Written.antt.
+#![tactic(auto, unfolding(octets::specs::Computing::octets_compute))]
+
 ghost use Rattle.std.specs.Prelude.{◌≡◌, false};
 ghost use Rattle.octets.specs.Reading.{or_nothing};
 ghost use Rattle.sink.specs.Sink.{Put};
@@ -7,7 +9,6 @@ ghost use Rattle.xml.specs.Escape.{escaped};
 ghost use Rattle.texts.specs.Text.{read_text, escape_text, write_text};
 ghost use Rattle.texts.specs.Unescaped.{meant, unescaped};
 
-use crate::is_kept;
 use crate::text::{is_escaped, is_opening, read_one_text};
 use octets::unit::END;
 use sink::put;
@@ -18,16 +19,10 @@ use tags::put_escaped_byte;
 fn meant_by(after: bool, b: u8) -> u8
     ensures { result ≡ meant after b }
 {
-    if after {
-        if b == b'n' {
-            return b'\n';
-        }
-        if b == b'N' {
-            return b'\n';
-        }
-        return b;
+    match (after, b) {
+        (true, b'n' | b'N') => b'\n',
+        _ => b,
     }
-    b
 }
 
 fn put_unescaped(out: &mut [u8], at: usize, mode: usize, s: &[u8], from: usize) -> usize
@@ -38,15 +33,14 @@ fn put_unescaped(out: &mut [u8], at: usize, mode: usize, s: &[u8], from: usize) 
     let mut c = from;
     loop {
         let t = unit(mode, s, c);
-        let u = t.u;
-        if u == END {
+        if t.u == END {
             return o;
         }
-        if is_opening(after, u) {
+        if is_opening(after, t.u) {
             after = true;
             c = t.next;
         } else {
-            let b = meant_by(after, u as u8);
+            let b = meant_by(after, t.u as u8);
             o = put_escaped_byte(out, o, b);
             after = false;
             c = t.next;
@@ -59,8 +53,7 @@ pub fn put_text_xml(out: &mut [u8], at: usize, mode: usize, s: &[u8], from: usiz
     ensures { Put out.old out.new at result
         (or_nothing escaped (read_text (rest mode s.now from))) }
 {
-    let k = read_one_text(mode, s, from);
-    if is_kept(k) {
+    if read_one_text(mode, s, from) {
         return put_unescaped(out, at, mode, s, from);
     }
     at
@@ -88,11 +81,10 @@ pub fn put_text_escaped(out: &mut [u8], at: usize, mode: usize, s: &[u8], from: 
     let mut c = from;
     loop {
         let t = unit(mode, s, c);
-        let u = t.u;
-        if u == END {
+        if t.u == END {
             return o;
         }
-        o = put_text_byte(out, o, u as u8);
+        o = put_text_byte(out, o, t.u as u8);
         c = t.next;
     }
 }

@@ -5,8 +5,7 @@
 --     States k c      its text states the calendar c (without any writer);   SameCalendar: two calls state the same
 --     accepted_ones   of a list of calls;   SameCalendars: place by place the same calendar;   stream_of: their XML, joined
 --     TextCall, is_text_accepted, text_of, StatesXml  the same of a call to text
-use Rattle.std.specs.Prelude.{◌≡◌, Bool, true, false, List, [], ◌∷◌, map, ℕ, length, take}
-use Rattle.std.proofs.Math.Option.{some}
+use Rattle.std.specs.Prelude.{◌≡◌, Bool, true, false, List, [], ◌∷◌, map, ℕ, length, take, Some}
 use Rattle.octets.specs.Pick.{pick}
 use Rattle.octets.specs.Append.{joined}
 use Rattle.calendar.specs.Calendar.{Calendar}
@@ -47,13 +46,13 @@ module _ (ed : Edition) where
   -- ---- calls to XML
 
   abbrev pub answer_of : Call → Outcome
-  answer_of k = outcome (to_xml (some ed) k.input (length k.work)) (length k.output)
+  answer_of k = outcome (to_xml (Some ed) k.input (length k.work)) (length k.output)
 
   abbrev pub is_accepted : Call → Bool
   is_accepted k = is_written (answer_of k)
 
   abbrev pub xml_of : Call → List ℕ
-  xml_of k = take (bytes_of (answer_of k)) (contents (to_xml (some ed) k.input (length k.work)) k.output)
+  xml_of k = take (bytes_of (answer_of k)) (contents (to_xml (Some ed) k.input (length k.work)) k.output)
 
   abbrev pub States : Call → Calendar → Type 0
   States k c = read_calendar ed k.input (length k.work) ≡ accepted c
@@ -82,13 +81,13 @@ module _ (ed : Edition) where
   -- ---- calls to text
 
   abbrev pub text_answer_of : TextCall → Outcome
-  text_answer_of t = outcome (to_text (some ed) t.input) (length t.output)
+  text_answer_of t = outcome (to_text (Some ed) t.input) (length t.output)
 
   abbrev pub is_text_accepted : TextCall → Bool
   is_text_accepted t = is_written (text_answer_of t)
 
   abbrev pub text_of : TextCall → List ℕ
-  text_of t = take (bytes_of (text_answer_of t)) (contents (to_text (some ed) t.input) t.output)
+  text_of t = take (bytes_of (text_answer_of t)) (contents (to_text (Some ed) t.input) t.output)
 
   -- its document states the calendar
   abbrev pub StatesXml : TextCall → Calendar → Type 0

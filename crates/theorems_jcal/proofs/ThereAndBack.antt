@@ -2,11 +2,10 @@
 --     there_and_back    of an accepted call whose jCal is within the input limit: a call to text with this jCal and room enough is accepted and gives the
 --                       canonical text of the same calendar; where that text is within the limit, a call to jCal with it, a work room no shorter and
 --                       room enough is accepted and gives the same jCal, byte for byte
-use Rattle.std.specs.Prelude.{◌≡◌, true, ℕ, ◌≤◌, length}
+use Rattle.std.specs.Prelude.{◌≡◌, true, ℕ, ◌≤◌, length, Some}
 use Rattle.std.proofs.Common.{sym, ◌∙◌}
 use Rattle.std.proofs.Math.Path.{ap}
 use mathlib.Core.List.{List}
-use Rattle.std.proofs.Math.Option.{some}
 use Rattle.calendar.specs.Calendar.{Calendar}
 use Rattle.calendar.specs.Refusal.{limit}
 use Rattle.text.specs.ReadText.{read_calendar}
@@ -25,7 +24,7 @@ use Rattle.theorems_jcal.specs.Calls.{is_accepted, jcal_of, is_text_accepted, te
 use Rattle.theorems_jcal.proofs.laws.Calls.{states_accepted, jcal_is}
 
 module _ (ed : Edition) where
-  jcal_text : (k : Call) (c : Calendar) (s : List ℕ) → States ed k c → s ≡ write_jcal c → length s ≤ limit → jcal_to_text (some ed) s ≡ result (write_calendar ed c)
+  jcal_text : (k : Call) (c : Calendar) (s : List ℕ) → States ed k c → s ≡ write_jcal c → length s ≤ limit → jcal_to_text (Some ed) s ≡ result (write_calendar ed c)
   unfolding jcal_to_text
   jcal_text k c s t e l =
       ap (λ (x : List ℕ). converted (write_calendar ed) (read_jcal ed x)) e
@@ -44,7 +43,7 @@ module _ (ed : Edition) where
       (is_accepted ed again ≡ true) × (jcal_of ed again ≡ jcal_of ed k))
   there_and_back k c h s l t i r =
       let x : jcal_of ed k ≡ write_jcal c = jcal_is ed k c h s in
-      let a = result_given (jcal_to_text (some ed) t.input) (write_calendar ed c) t.output (jcal_text k c t.input s (i ∙ x) (within_too (jcal_of ed k) t.input limit (sym i) l)) r in (
+      let a = result_given (jcal_to_text (Some ed) t.input) (write_calendar ed c) t.output (jcal_text k c t.input s (i ∙ x) (within_too (jcal_of ed k) t.input limit (sym i) l)) r in (
         a.0,
         a.1,
         λ again j m w o.

@@ -3,8 +3,7 @@
 --     jcal_of          these bytes, from the front of its output
 --     is_text_accepted, text_of, StatesJcal  the same of a call from jCal to text
 -- What the text of a call to jCal states, and that two state the same: States, SameCalendar of crate theorems.
-use Rattle.std.specs.Prelude.{◌≡◌, Bool, List, ℕ, length, take}
-use Rattle.std.proofs.Math.Option.{some}
+use Rattle.std.specs.Prelude.{◌≡◌, Bool, List, ℕ, length, take, Some}
 use Rattle.calendar.specs.Calendar.{Calendar}
 use Rattle.calendar.specs.Refusal.{accepted}
 use Rattle.edition.specs.declared.Edition.{Edition}
@@ -19,24 +18,24 @@ module _ (ed : Edition) where
   -- ---- calls to jCal
 
   abbrev pub answer_of : Call → Outcome
-  answer_of k = outcome (to_jcal (some ed) k.input (length k.work)) (length k.output)
+  answer_of k = outcome (to_jcal (Some ed) k.input (length k.work)) (length k.output)
 
   abbrev pub is_accepted : Call → Bool
   is_accepted k = is_written (answer_of k)
 
   abbrev pub jcal_of : Call → List ℕ
-  jcal_of k = take (bytes_of (answer_of k)) (contents (to_jcal (some ed) k.input (length k.work)) k.output)
+  jcal_of k = take (bytes_of (answer_of k)) (contents (to_jcal (Some ed) k.input (length k.work)) k.output)
 
   -- ---- calls to text
 
   abbrev pub text_answer_of : TextCall → Outcome
-  text_answer_of t = outcome (jcal_to_text (some ed) t.input) (length t.output)
+  text_answer_of t = outcome (jcal_to_text (Some ed) t.input) (length t.output)
 
   abbrev pub is_text_accepted : TextCall → Bool
   is_text_accepted t = is_written (text_answer_of t)
 
   abbrev pub text_of : TextCall → List ℕ
-  text_of t = take (bytes_of (text_answer_of t)) (contents (jcal_to_text (some ed) t.input) t.output)
+  text_of t = take (bytes_of (text_answer_of t)) (contents (jcal_to_text (Some ed) t.input) t.output)
 
   -- its jCal states the calendar
   abbrev pub StatesJcal : TextCall → Calendar → Type 0

@@ -1,7 +1,6 @@
 -- Two rotas that are joined, to jCal: the first ends with a fold, the second begins with one.
 --     given    what a text gives, to jCal
-use Rattle.std.specs.Prelude.{◌≡◌, refl, List, [], ◌∷◌, ◌++◌, map, ℕ, length}
-use Rattle.std.proofs.Math.Option.{some}
+use Rattle.std.specs.Prelude.{◌≡◌, refl, List, [], ◌∷◌, ◌++◌, map, ℕ, length, Some}
 use Rattle.octets.specs.Ascii.{ascii}
 use Rattle.calendar.specs.Refusal.{LINE}
 use Rattle.edition.specs.declared.Edition.TheVariants.{Rfc5545}
@@ -14,7 +13,7 @@ use Rattle.theorems_jcal.specs.Joined.{objects_in}
 
 -- with a work room as long as the text
 abbrev given : List ℕ → Converted
-given s = to_jcal (some Rfc5545) s (length s)
+given s = to_jcal (Some Rfc5545) s (length s)
 
 -- a rota of one event, in which this line stands last
 abbrev rota_text : List ℕ → List ℕ

@@ -2,8 +2,7 @@
 -- Its days are those of the Gregorian rule (crate gregorian); that DATE accepts exactly these is shown in MonthRule.
 --     is_date                    a kept value: eight digits of a real day
 --     read_date, write_date
-use Rattle.std.specs.Prelude.{Bool, List, [], ◌∷◌, ℕ, eqb, length, take, drop}
-use Rattle.std.proofs.Math.Option.{Option}
+use Rattle.std.specs.Prelude.{Bool, List, [], ◌∷◌, ℕ, eqb, length, take, drop, Option}
 use Rattle.octets.specs.Pick.{◌and◌}
 use Rattle.octets.specs.Scan.{all_of}
 use Rattle.octets.specs.Class.{is_digit}

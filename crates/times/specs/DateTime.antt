@@ -1,8 +1,7 @@
 -- DATE-TIME (RFC 5545, section 3.3.5; RFC 6321, section 3.6.5): 20240504T080000Z in text, 2024-05-04T08:00:00Z in XML.
 --     is_date_time   a kept value
 --     read_date_time, write_date_time
-use Rattle.std.specs.Prelude.{Bool, List, [], ◌∷◌, ℕ, take, drop}
-use Rattle.std.proofs.Math.Option.{Option}
+use Rattle.std.specs.Prelude.{Bool, List, [], ◌∷◌, ℕ, take, drop, Option}
 use Rattle.octets.specs.Pick.{◌and◌}
 use Rattle.octets.specs.Class.{upper}
 use Rattle.octets.specs.Reading.{and_then}

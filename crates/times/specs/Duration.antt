@@ -10,8 +10,7 @@
 -- Each rule is a test of the same name (dur-day is in dur_date): the spelling, to its end, is one of that rule.
 --     is_duration     a kept value
 --     read_duration, write_duration
-use Rattle.std.specs.Prelude.{Bool, List, ℕ, ltb, drop}
-use Rattle.std.proofs.Math.Option.{Option, some}
+use Rattle.std.specs.Prelude.{Bool, List, ℕ, ltb, drop, Option, Some}
 use Rattle.octets.specs.Pick.{pick, ◌and◌, ◌or◌}
 use Rattle.octets.specs.Scan.{span_len}
 use Rattle.octets.specs.Class.{is_digit, upper}
@@ -61,7 +60,7 @@ is_duration s = unsigned_duration s or begins 45 unsigned_duration s
 
 -- a dur-value, and its plus dropped;   43 is +
 unfoldable pub duration_of : List ℕ → Option (List ℕ)
-duration_of s = pick (begins 43 unsigned_duration s) (some (drop 1 s)) (keep is_duration s)
+duration_of s = pick (begins 43 unsigned_duration s) (Some (drop 1 s)) (keep is_duration s)
 
 unfoldable pub read_duration : Format → List ℕ → Option (List ℕ)
 read_duration ical s = duration_of (upper s)

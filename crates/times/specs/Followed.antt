@@ -1,15 +1,14 @@
--- What following a pattern answers: whether all of it was passed, the number of its digits, and the cursor after it.
+-- What following a pattern answers: the number of its digits and the cursor after it, if all of it was passed.
 --     Walks     the contract
---     walk_more, walk_lost, walk_done    laws of the loop
-use Rattle.std.specs.Prelude.{◌≡◌, Bool, List, ℕ}
-use Rattle.octets.specs.Pick.{pick}
+use Rattle.std.specs.Prelude.{◌≡◌, Bool, List, ℕ, Option, None, Some}
 use Rattle.source.specs.Source.{rest}
 use Rattle.times.specs.Letters.{cased}
 use Rattle.times.specs.Pattern.{Followed, reached, lost, along}
 use Rattle.times.specs.declared.follow.Walk.{Walk}
 
-unfoldable pub walked : Bool → ℕ → List ℕ → Walk → Followed
-walked e m s r = pick r.ok (reached r.n (cased e (rest m s r.next))) lost
+abbrev pub walked : Bool → ℕ → List ℕ → Option Walk → Followed
+walked e m s (Some w) = reached w.number (cased e (rest m s w.next))
+walked e m s None = lost
 
-pub record Walks (p : List ℕ) (e : Bool) (m : ℕ) (s : List ℕ) (c : ℕ) (r : Walk) : Type 0 where
+pub record Walks (p : List ℕ) (e : Bool) (m : ℕ) (s : List ℕ) (c : ℕ) (r : Option Walk) : Type 0 where
   pub is : along p 0 (cased e (rest m s c)) ≡ walked e m s r

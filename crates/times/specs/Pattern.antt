@@ -1,8 +1,7 @@
 -- A spelling followed along a pattern: in the pattern a 0 stands for any digit, a + for a plus or a hyphen, and any other character for itself.
 -- The marks that XML puts into a spelling are put into the pattern in the same way, so a reader knows two patterns and no marks.
 --     along p n s      the number of the digits passed after a number n, and what is left of s; or lost
-use Rattle.std.specs.Prelude.{Bool, true, false, List, [], ◌∷◌, ℕ, zero, suc, ◌+◌, ◌*◌, eqb, leb, length, take}
-use Rattle.std.proofs.Math.Option.{Option, none, some}
+use Rattle.std.specs.Prelude.{Bool, true, false, List, [], ◌∷◌, ℕ, zero, suc, ◌+◌, ◌*◌, eqb, leb, length, take, Option, None, Some}
 use Rattle.octets.specs.Pick.{pick, ◌and◌, ◌or◌}
 use Rattle.octets.specs.Scan.{all_of}
 use Rattle.octets.specs.Class.{is_digit}
@@ -29,8 +28,8 @@ along (c ∷ p) n (b ∷ s) = pick (passes c b) (along p (tally c n b) s) lost
 -- ---- marks
 
 unfoldable pub followed_by : Option (List ℕ) → (List ℕ → Followed) → Followed
-followed_by none f = lost
-followed_by (some s) f = f s
+followed_by None f = lost
+followed_by (Some s) f = f s
 
 -- a mark, which is no placeholder, passes itself
 unfoldable pub is_mark : ℕ → Bool

@@ -1,8 +1,7 @@
 -- PERIOD in iCalendar text (RFC 5545, section 3.3.9): a start, and its end or a duration. In XML a period is made of elements (RFC 6321, section 3.6.9).
 --     read_period     19970101T180000Z/19970102T070000Z, 19970101T180000Z/PT5H30M
 --     write_period    of the start, and the end or the duration
-use Rattle.std.specs.Prelude.{Bool, true, false, List, ◌∷◌, ℕ, eqb, take, drop}
-use Rattle.std.proofs.Math.Option.{Option, some}
+use Rattle.std.specs.Prelude.{Bool, true, false, List, ◌∷◌, ℕ, eqb, take, drop, Option, Some}
 use Rattle.octets.specs.Pick.{pick, ◌or◌}
 use Rattle.octets.specs.Scan.{span_len}
 use Rattle.octets.specs.Append.{◌⊕◌}
@@ -25,8 +24,8 @@ slash_at s = span_len is_no_slash s
 -- period-explicit = date-time "/" date-time;   period-start = date-time "/" dur-value
 unfoldable pub period_from : List ℕ → List ℕ → Option Value
 period_from start s =
-    pick (is_date_time (upper s)) (some (period_explicit start (upper s)))
-    (and_then (read_duration ical s) (λ d. some (period_start start d)))
+    pick (is_date_time (upper s)) (Some (period_explicit start (upper s)))
+    (and_then (read_duration ical s) (λ d. Some (period_start start d)))
 
 unfoldable pub read_period : List ℕ → Option Value
 read_period s = and_then (read_date_time ical (take (slash_at s) s)) (λ start. period_from start (drop 1 (drop (slash_at s) s)))

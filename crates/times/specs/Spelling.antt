@@ -7,8 +7,7 @@
 --     with_marks      marks put into a spelling, the first one first
 --     without_marks   marks taken out, each of which must stand in its place
 --     fits            marks whose places are in a spelling of n characters
-use Rattle.std.specs.Prelude.{Bool, true, false, List, [], ◌∷◌, ℕ, zero, suc, eqb, leb}
-use Rattle.std.proofs.Math.Option.{Option, none, some}
+use Rattle.std.specs.Prelude.{Bool, true, false, List, [], ◌∷◌, ℕ, zero, suc, eqb, leb, Option, None, Some}
 use Rattle.octets.specs.Pick.{◌and◌, ◌or◌}
 use Rattle.octets.specs.Class.{is_digit, is_capital}
 use Rattle.octets.specs.Reading.{provided, and_then, cons_read}
@@ -39,9 +38,9 @@ put_mark (suc n) c [] = c ∷ []
 put_mark (suc n) c (b ∷ s) = b ∷ put_mark n c s
 
 unfoldable pub take_mark : ℕ → ℕ → List ℕ → Option (List ℕ)
-take_mark zero c [] = none
+take_mark zero c [] = None
 take_mark zero c (b ∷ s) = provided (eqb b c) s
-take_mark (suc n) c [] = none
+take_mark (suc n) c [] = None
 take_mark (suc n) c (b ∷ s) = cons_read b (take_mark n c s)
 
 unfoldable pub with_marks : List Mark → List ℕ → List ℕ
@@ -49,7 +48,7 @@ with_marks [] s = s
 with_marks (m ∷ ms) s = with_marks ms (put_mark m.place m.sign s)
 
 unfoldable pub without_marks : List Mark → List ℕ → Option (List ℕ)
-without_marks [] s = some s
+without_marks [] s = Some s
 without_marks (m ∷ ms) s = and_then (without_marks ms s) (take_mark m.place m.sign)
 
 unfoldable pub fits : List Mark → ℕ → Bool

@@ -2,8 +2,7 @@
 --     is_clock   the digits of hour, minute and, if given, second, each in its range
 --     is_time    a kept value
 --     read_time, write_time
-use Rattle.std.specs.Prelude.{Bool, List, [], ◌∷◌, ℕ, leb, length, take, drop}
-use Rattle.std.proofs.Math.Option.{Option}
+use Rattle.std.specs.Prelude.{Bool, List, [], ◌∷◌, ℕ, leb, length, take, drop, Option}
 use Rattle.octets.specs.Ascii.{ascii}
 use Rattle.octets.specs.Pick.{◌and◌, ◌or◌}
 use Rattle.octets.specs.Scan.{all_of}

@@ -2,9 +2,8 @@
 --     clock_of        what a reader's answer says
 --     time_pattern    the pattern in a format
 --     clock_from n r  the time of six digits that are worth n, with r after them
---     zone, clock_by  the same by the kind of what is after them: 0 nothing, 1 Z, 2 anything else
-use Rattle.std.specs.Prelude.{Bool, List, [], ◌∷◌, ℕ, ◌/◌, ◌%◌, eqb, leb}
-use Rattle.std.proofs.Math.Option.{Option, none, some}
+--     zone, clock_by  the same in two steps: the zone that is after them, if it is one, and the time in a zone
+use Rattle.std.specs.Prelude.{Bool, true, false, List, [], ◌∷◌, ℕ, ◌/◌, ◌%◌, leb, Option, None, Some}
 use Rattle.octets.specs.Pick.{pick, ◌and◌, ◌or◌}
 use Rattle.octets.specs.Append.{◌⊕◌}
 use Rattle.octets.specs.Ascii.{ascii}
@@ -13,8 +12,9 @@ use Rattle.octets.specs.Reading.{provided}
 use Rattle.calendar.specs.Calendar.{Format, ical, xcal}
 use Rattle.times.specs.Pattern.{Followed, reached, lost}
 use Rattle.times.specs.Digits.{two_digits}
-use Rattle.times.specs.declared.time.TimeRead.{TimeRead}
-use Rattle.times.specs.declared.time.TimeRead.TheVariants.{Clock, NoTime}
+use Rattle.times.specs.declared.time.Time.{Time}
+use Rattle.times.specs.declared.time.Zone.{Zone}
+use Rattle.times.specs.declared.time.Zone.TheVariants.{Local, Utc}
 
 abbrev pub time_pattern : Format → List ℕ
 time_pattern ical = ascii "000000"
@@ -35,23 +35,24 @@ unfoldable pub clock_from : ℕ → List ℕ → Option (List ℕ)
 clock_from n r = provided (is_hms (n / 10000 % 100) (n / 100 % 100) (n % 100) and is_zone r) (hms (n / 10000 % 100) (n / 100 % 100) (n % 100) r)
 
 unfoldable pub timed : Followed → Option (List ℕ)
-timed lost = none
+timed lost = None
 timed (reached n r) = clock_from n r
 
--- 0 nothing, 1 Z, 2 anything else
-unfoldable pub zone : List ℕ → ℕ
-zone r = pick (is_empty r) 0 (pick (same r (ascii "Z")) 1 2)
+unfoldable pub zone : List ℕ → Option Zone
+zone r = pick (is_empty r) (Some Local) (provided (same r (ascii "Z")) Utc)
+
+abbrev pub is_utc : Zone → Bool
+is_utc Local = false
+is_utc Utc = true
 
 -- 90 is Z
 unfoldable pub time_of : ℕ → ℕ → ℕ → Bool → List ℕ
 time_of h m s z = hms h m s (pick z (90 ∷ []) [])
 
-unfoldable pub clock_by : ℕ → ℕ → Option (List ℕ)
-clock_by n k =
-    pick (eqb k 2) none (
-    provided (is_hms (n / 10000 % 100) (n / 100 % 100) (n % 100)) (time_of (n / 10000 % 100) (n / 100 % 100) (n % 100) (eqb k 1)))
+unfoldable pub clock_by : ℕ → Zone → Option (List ℕ)
+clock_by n z = provided (is_hms (n / 10000 % 100) (n / 100 % 100) (n % 100)) (time_of (n / 10000 % 100) (n / 100 % 100) (n % 100) (is_utc z))
 
 -- what a reader answers
-abbrev pub clock_of : TimeRead → Option (List ℕ)
-clock_of (Clock h m s z) = some (time_of h m s z)
-clock_of NoTime = none
+abbrev pub clock_of : Option Time → Option (List ℕ)
+clock_of (Some t) = Some (time_of t.hour t.minute t.second t.utc)
+clock_of None = None

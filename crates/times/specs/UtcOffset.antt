@@ -2,8 +2,7 @@
 -- +0100 and -013015 in text, +01:00 and -01:30:15 in XML.
 --     is_utc_offset   a kept value
 --     read_utc_offset, write_utc_offset
-use Rattle.std.specs.Prelude.{Bool, List, [], ◌∷◌, ℕ, eqb, ltb, length}
-use Rattle.std.proofs.Math.Option.{Option, none}
+use Rattle.std.specs.Prelude.{Bool, List, [], ◌∷◌, ℕ, eqb, ltb, length, Option, None}
 use Rattle.octets.specs.Pick.{pick, ◌and◌, ◌or◌}
 use Rattle.octets.specs.Decimal.{value}
 use Rattle.octets.specs.Reading.{and_then}
@@ -36,7 +35,7 @@ read_utc_offset ical s = keep is_utc_offset s
 read_utc_offset xcal s =
     pick (eqb (length s) 6) (and_then (without_marks minute_marks s) (keep is_utc_offset)) (
     pick (eqb (length s) 9) (and_then (without_marks second_marks s) (keep is_utc_offset))
-    none)
+    None)
 
 -- +0100 has five characters
 unfoldable pub write_utc_offset : Format → List ℕ → List ℕ

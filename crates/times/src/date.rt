@@ -13,48 +13,47 @@ use crate::letters::ended;
 use crate::written::put_day;
 use gregorian::is_day;
 
-// A day by year, month and day of the month.
-#[derive(Clone, Copy)]
-pub enum DateRead {
-    Day(u16, u8, u8),
-    NoDate,
+// A day of the calendar.
+#[derive(Clone, Copy, Debug, PartialEq, Eq)]
+pub struct Date {
+    pub year: u16,
+    pub month: u8,
+    pub day: u8,
 }
 
 // The day of eight digits that are worth `n`.
-pub fn day_from(n: usize) -> DateRead
+pub fn day_from(n: usize) -> Option<Date>
     ensures { day_from n ≡ day_of result }
 {
-    let y = (n / 10000 % 10000) as u16;
-    let m = (n / 100 % 100) as u8;
-    let d = (n % 100) as u8;
-    if is_day(y, m, d) {
-        return DateRead::Day(y, m, d);
+    let year = (n / 10000 % 10000) as u16;
+    let month = (n / 100 % 100) as u8;
+    let day = (n % 100) as u8;
+    if is_day(year, month, day) {
+        Some(Date { year, month, day })
+    } else {
+        None
     }
-    DateRead::NoDate
 }
 
-fn follow_date(xcal: bool, mode: usize, s: &[u8], at: usize) -> Walk
+fn follow_date(xcal: bool, mode: usize, s: &[u8], at: usize) -> Option<Walk>
     ensures { Walks (date_pattern (format_of xcal)) true mode s.now at result }
 {
     if xcal {
-        return follow(b"0000-00-00", true, mode, s, at);
+        follow(b"0000-00-00", true, mode, s, at)
+    } else {
+        follow(b"00000000", true, mode, s, at)
     }
-    follow(b"00000000", true, mode, s, at)
 }
 
-pub fn read_date(xcal: bool, mode: usize, s: &[u8], at: usize) -> DateRead
+pub fn read_date(xcal: bool, mode: usize, s: &[u8], at: usize) -> Option<Date>
     ensures { read_date (format_of xcal) (rest mode s.now at) ≡ day_of result }
 {
-    let w = follow_date(xcal, mode, s, at);
-    let ok = w.ok;
-    if ok {
-        let end = ended(mode, s, w.next);
-        if end {
-            return day_from(w.n);
-        }
-        return DateRead::NoDate;
+    let walk = follow_date(xcal, mode, s, at)?;
+    if ended(mode, s, walk.next) {
+        day_from(walk.number)
+    } else {
+        None
     }
-    DateRead::NoDate
 }
 
 pub fn put_date(
@@ -69,9 +68,8 @@ pub fn put_date(
     ensures { Put out.old out.new o result
         (or_nothing (write_date (format_of to)) (read_date (format_of from) (rest mode s.now at))) }
 {
-    let r = read_date(from, mode, s, at);
-    match r {
-        DateRead::Day(y, m, d) => put_day(out, o, to, y, m, d),
-        DateRead::NoDate => o,
+    match read_date(from, mode, s, at) {
+        Some(date) => put_day(out, o, to, date),
+        None => o,
     }
 }

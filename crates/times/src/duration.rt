@@ -11,114 +11,75 @@ ghost use Rattle.times.specs.Written.{mark_bytes};
 ghost use Rattle.times.specs.Duration.{optional, dur_second, dur_minute, dur_hour, dur_time, dur_date, dur_week, unsigned_duration, read_duration, write_duration};
 ghost use Rattle.times.specs.DurationAt.{Runs, span_if, span_of};
 
-use crate::follow::is_digit;
 use crate::letters::{ended, letter};
 use crate::written::put_mark;
+use octets::is_digit;
 use octets::unit::{
     END, HYPHEN, PLUS, UPPER_D, UPPER_H, UPPER_M, UPPER_P, UPPER_S, UPPER_T, UPPER_W,
 };
 use sink::put;
-
-// Digits at a cursor: whether there are any, the character after them, and the cursor after that.
-#[derive(Clone, Copy)]
-pub struct Run {
-    pub any: bool,
-    pub u: usize,
-    pub next: usize,
-}
+use source::Step;
 
 // Whether it is negative, and the cursor after the sign.
-#[derive(Clone, Copy)]
-pub enum DurationRead {
-    Span(bool, usize),
-    NoDuration,
+#[derive(Clone, Copy, Debug, PartialEq, Eq)]
+pub struct Duration {
+    pub negative: bool,
+    pub at: usize,
 }
 
-fn digits(exact: bool, mode: usize, s: &[u8], at: usize) -> Run
+// Digits at a cursor: the character after them, and the cursor after that.
+fn digits(exact: bool, mode: usize, s: &[u8], at: usize) -> Option<Step>
     ensures { Runs exact mode s.now at result }
 {
     let mut any = false;
     let mut c = at;
     loop {
         let a = letter(exact, mode, s, c);
-        let u = a.u;
-        let digit = is_digit(u);
-        if digit {
-            any = true;
-            c = a.next;
-        } else {
-            return Run {
-                any: any,
-                u: u,
-                next: a.next,
-            };
+        if !is_digit(a.u) {
+            return if any { Some(a) } else { None };
         }
+        any = true;
+        c = a.next;
     }
 }
 
 fn second(exact: bool, mode: usize, s: &[u8], at: usize) -> bool
     ensures { result ≡ dur_second (cased exact (rest mode s.now at)) }
 {
-    let a = digits(exact, mode, s, at);
-    let any = a.any;
-    if any {
-        let u = a.u;
-        if u == UPPER_S {
-            return ended(mode, s, a.next);
-        }
-        return false;
+    match digits(exact, mode, s, at) {
+        Some(a) => a.u == UPPER_S && ended(mode, s, a.next),
+        None => false,
     }
-    false
 }
 
 fn no_or_second(exact: bool, mode: usize, s: &[u8], at: usize) -> bool
     ensures { result ≡ optional dur_second (cased exact (rest mode s.now at)) }
 {
-    let end = ended(mode, s, at);
-    if end {
-        return true;
-    }
-    second(exact, mode, s, at)
+    ended(mode, s, at) || second(exact, mode, s, at)
 }
 
 fn minute(exact: bool, mode: usize, s: &[u8], at: usize) -> bool
     ensures { result ≡ dur_minute (cased exact (rest mode s.now at)) }
 {
-    let a = digits(exact, mode, s, at);
-    let any = a.any;
-    if any {
-        let u = a.u;
-        if u == UPPER_M {
-            return no_or_second(exact, mode, s, a.next);
-        }
-        return false;
+    match digits(exact, mode, s, at) {
+        Some(a) => a.u == UPPER_M && no_or_second(exact, mode, s, a.next),
+        None => false,
     }
-    false
 }
 
 fn no_or_minute(exact: bool, mode: usize, s: &[u8], at: usize) -> bool
     ensures { result ≡ optional dur_minute (cased exact (rest mode s.now at)) }
 {
-    let end = ended(mode, s, at);
-    if end {
-        return true;
-    }
-    minute(exact, mode, s, at)
+    ended(mode, s, at) || minute(exact, mode, s, at)
 }
 
 fn hour(exact: bool, mode: usize, s: &[u8], at: usize) -> bool
     ensures { result ≡ dur_hour (cased exact (rest mode s.now at)) }
 {
-    let a = digits(exact, mode, s, at);
-    let any = a.any;
-    if any {
-        let u = a.u;
-        if u == UPPER_H {
-            return no_or_minute(exact, mode, s, a.next);
-        }
-        return false;
+    match digits(exact, mode, s, at) {
+        Some(a) => a.u == UPPER_H && no_or_minute(exact, mode, s, a.next),
+        None => false,
     }
-    false
 }
 
 fn hours(exact: bool, mode: usize, s: &[u8], at: usize) -> bool
@@ -127,66 +88,38 @@ fn hours(exact: bool, mode: usize, s: &[u8], at: usize) -> bool
         or dur_minute (cased exact (rest mode s.now at))
         or dur_second (cased exact (rest mode s.now at))) }
 {
-    let h = hour(exact, mode, s, at);
-    if h {
-        return true;
-    }
-    let m = minute(exact, mode, s, at);
-    if m {
-        return true;
-    }
-    second(exact, mode, s, at)
+    hour(exact, mode, s, at) || minute(exact, mode, s, at) || second(exact, mode, s, at)
 }
 
 fn after_t(exact: bool, mode: usize, s: &[u8], at: usize) -> bool
     ensures { result ≡ dur_time (cased exact (rest mode s.now at)) }
 {
     let a = letter(exact, mode, s, at);
-    let u = a.u;
-    if u == UPPER_T {
-        return hours(exact, mode, s, a.next);
-    }
-    false
+    a.u == UPPER_T && hours(exact, mode, s, a.next)
 }
 
 fn no_or_time(exact: bool, mode: usize, s: &[u8], at: usize) -> bool
     ensures { result ≡ optional dur_time (cased exact (rest mode s.now at)) }
 {
-    let end = ended(mode, s, at);
-    if end {
-        return true;
-    }
-    after_t(exact, mode, s, at)
+    ended(mode, s, at) || after_t(exact, mode, s, at)
 }
 
 fn days(exact: bool, mode: usize, s: &[u8], at: usize) -> bool
     ensures { result ≡ dur_date (cased exact (rest mode s.now at)) }
 {
-    let a = digits(exact, mode, s, at);
-    let any = a.any;
-    if any {
-        let u = a.u;
-        if u == UPPER_D {
-            return no_or_time(exact, mode, s, a.next);
-        }
-        return false;
+    match digits(exact, mode, s, at) {
+        Some(a) => a.u == UPPER_D && no_or_time(exact, mode, s, a.next),
+        None => false,
     }
-    false
 }
 
 fn weeks(exact: bool, mode: usize, s: &[u8], at: usize) -> bool
     ensures { result ≡ dur_week (cased exact (rest mode s.now at)) }
 {
-    let a = digits(exact, mode, s, at);
-    let any = a.any;
-    if any {
-        let u = a.u;
-        if u == UPPER_W {
-            return ended(mode, s, a.next);
-        }
-        return false;
+    match digits(exact, mode, s, at) {
+        Some(a) => a.u == UPPER_W && ended(mode, s, a.next),
+        None => false,
     }
-    false
 }
 
 fn after_p(exact: bool, mode: usize, s: &[u8], at: usize) -> bool
@@ -195,52 +128,39 @@ fn after_p(exact: bool, mode: usize, s: &[u8], at: usize) -> bool
         or dur_time (cased exact (rest mode s.now at))
         or dur_week (cased exact (rest mode s.now at))) }
 {
-    let d = days(exact, mode, s, at);
-    if d {
-        return true;
-    }
-    let t = after_t(exact, mode, s, at);
-    if t {
-        return true;
-    }
-    weeks(exact, mode, s, at)
+    days(exact, mode, s, at) || after_t(exact, mode, s, at) || weeks(exact, mode, s, at)
 }
 
 fn is_unsigned(exact: bool, mode: usize, s: &[u8], at: usize) -> bool
     ensures { result ≡ unsigned_duration (cased exact (rest mode s.now at)) }
 {
     let a = letter(exact, mode, s, at);
-    let u = a.u;
-    if u == UPPER_P {
-        return after_p(exact, mode, s, a.next);
-    }
-    false
+    a.u == UPPER_P && after_p(exact, mode, s, a.next)
 }
 
-fn span_if(ok: bool, neg: bool, at: usize) -> DurationRead
-    ensures { result ≡ span_if ok neg at }
+// A duration whose sign ends at the cursor `at`.
+fn span_from(negative: bool, exact: bool, mode: usize, s: &[u8], at: usize) -> Option<Duration>
+    ensures { result
+        ≡ span_if (unsigned_duration (cased exact (rest mode s.now at))) negative at }
 {
-    if ok {
-        return DurationRead::Span(neg, at);
+    if is_unsigned(exact, mode, s, at) {
+        Some(Duration { negative, at })
+    } else {
+        None
     }
-    DurationRead::NoDuration
 }
 
-pub fn read_duration(xcal: bool, mode: usize, s: &[u8], at: usize) -> DurationRead
+pub fn read_duration(xcal: bool, mode: usize, s: &[u8], at: usize) -> Option<Duration>
     ensures { read_duration (format_of xcal) (rest mode s.now at) ≡ span_of xcal mode s.now result }
 {
     let a = letter(xcal, mode, s, at);
-    let u = a.u;
-    if u == PLUS {
-        let ok = is_unsigned(xcal, mode, s, a.next);
-        return span_if(ok, false, a.next);
+    if a.u == PLUS {
+        return span_from(false, xcal, mode, s, a.next);
     }
-    if u == HYPHEN {
-        let ok = is_unsigned(xcal, mode, s, a.next);
-        return span_if(ok, true, a.next);
+    if a.u == HYPHEN {
+        return span_from(true, xcal, mode, s, a.next);
     }
-    let ok = is_unsigned(xcal, mode, s, at);
-    span_if(ok, false, at)
+    span_from(false, xcal, mode, s, at)
 }
 
 // The characters from the cursor `at` to the end.
@@ -251,11 +171,10 @@ fn put_letters(out: &mut [u8], o: usize, exact: bool, mode: usize, s: &[u8], at:
     let mut c = at;
     loop {
         let a = letter(exact, mode, s, c);
-        let u = a.u;
-        if u == END {
+        if a.u == END {
             return p;
         }
-        p = put(out, p, u as u8);
+        p = put(out, p, a.u as u8);
         c = a.next;
     }
 }
@@ -263,17 +182,16 @@ fn put_letters(out: &mut [u8], o: usize, exact: bool, mode: usize, s: &[u8], at:
 fn put_span(
     out: &mut [u8],
     o: usize,
-    neg: bool,
+    duration: Duration,
     exact: bool,
     mode: usize,
     s: &[u8],
-    at: usize,
 ) -> usize
     ensures { Put out.old out.new o result
-        (mark_bytes neg 45 ⊕ cased exact (rest mode s.now at)) }
+        (mark_bytes duration.negative 45 ⊕ cased exact (rest mode s.now duration.at)) }
 {
-    let p = put_mark(out, o, neg, b'-');
-    put_letters(out, p, exact, mode, s, at)
+    let p = put_mark(out, o, duration.negative, b'-');
+    put_letters(out, p, exact, mode, s, duration.at)
 }
 
 pub fn put_duration(
@@ -288,9 +206,8 @@ pub fn put_duration(
     ensures { Put out.old out.new o result
         (or_nothing (write_duration (format_of to)) (read_duration (format_of from) (rest mode s.now at))) }
 {
-    let r = read_duration(from, mode, s, at);
-    match r {
-        DurationRead::Span(neg, c) => put_span(out, o, neg, from, mode, s, c),
-        DurationRead::NoDuration => o,
+    match read_duration(from, mode, s, at) {
+        Some(duration) => put_span(out, o, duration, from, mode, s),
+        None => o,
     }
 }

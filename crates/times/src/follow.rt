@@ -1,44 +1,25 @@
 // A spelling followed along a pattern. See specs/Pattern.antt and specs/Followed.antt.
 ghost use Rattle.std.specs.Prelude.{◌≡◌, ◌≤◌, ◌<◌, ◌^◌, length, eqb};
 ghost use Rattle.octets.specs.Pick.{◌or◌};
-ghost use Rattle.octets.specs.Class.{is_digit};
 ghost use Rattle.octets.specs.Decimal.{digit_of};
 ghost use Rattle.times.specs.Pattern.{passes, tally};
 ghost use Rattle.times.specs.Followed.{Walks};
 
 use crate::letters::letter;
 use octets::unit::{HYPHEN, NINE, PLUS, ZERO};
+use octets::{is_digit, wide};
 
-// Whether all of a pattern was passed, the number of its digits, and the cursor after it.
-#[derive(Clone, Copy)]
+// The number of a pattern's digits, and the cursor after all of the pattern.
+#[derive(Clone, Copy, Debug, PartialEq, Eq)]
 pub struct Walk {
-    pub ok: bool,
-    pub n: usize,
+    pub number: usize,
     pub next: usize,
-}
-
-fn wide(b: u8) -> usize
-    ensures { (result ≡ b) × (result < 256) }
-{
-    b as usize
-}
-
-pub fn is_digit(u: usize) -> bool
-    ensures { result ≡ is_digit u }
-{
-    if u < ZERO {
-        return false;
-    }
-    u <= NINE
 }
 
 fn is_sign(u: usize) -> bool
     ensures { result ≡ (eqb u 43 or eqb u 45) }
 {
-    if u == PLUS {
-        return true;
-    }
-    u == HYPHEN
+    u == PLUS || u == HYPHEN
 }
 
 // Whether the character `k` of a pattern passes `u`.
@@ -72,40 +53,28 @@ fn tallied(k: usize, n: usize, u: usize) -> usize
     ensures { result ≡ tally k n u }
 {
     if k == ZERO {
-        let d = digit_of(u);
-        return n * 10 + d;
+        return n * 10 + digit_of(u);
     }
     n
 }
 
 // The pattern `p` followed from the cursor `at`.
-pub fn follow(p: &[u8], exact: bool, mode: usize, s: &[u8], at: usize) -> Walk
+pub fn follow(p: &[u8], exact: bool, mode: usize, s: &[u8], at: usize) -> Option<Walk>
     requires { length p.now ≤ 19 }
     ensures { Walks p.now exact mode s.now at result }
 {
-    let mut n: usize = 0;
+    let mut number: usize = 0;
     let mut c = at;
     let mut i = 0;
     while i < p.len() {
         let k = wide(p[i]);
         let a = letter(exact, mode, s, c);
-        let u = a.u;
-        let pass = passing(k, u);
-        if pass {
-            n = tallied(k, n, u);
-            c = a.next;
-            i += 1;
-        } else {
-            return Walk {
-                ok: false,
-                n: 0,
-                next: at,
-            };
+        if !passing(k, a.u) {
+            return None;
         }
+        number = tallied(k, number, a.u);
+        c = a.next;
+        i += 1;
     }
-    Walk {
-        ok: true,
-        n: n,
-        next: c,
-    }
+    Some(Walk { number, next: c })
 }

@@ -29,8 +29,10 @@ pub fn letter(exact: bool, mode: usize, s: &[u8], at: usize) -> Step
     if exact {
         return a;
     }
-    let w = capital(a.u);
-    Step { u: w, next: a.next }
+    Step {
+        u: capital(a.u),
+        next: a.next,
+    }
 }
 
 // Whether nothing is left from the cursor `at` on.

@@ -1,135 +1,87 @@
 // PERIOD in iCalendar text. See specs/Period.antt, specs/PeriodAlong.antt and specs/PeriodAt.antt.
-ghost use Rattle.std.specs.Prelude.{◌≡◌, true, false};
-ghost use Rattle.std.proofs.Math.Option.{none};
-ghost use Rattle.octets.specs.Reading.{is_read, or_nothing};
-ghost use Rattle.calendar.specs.Calendar.{ical, xcal};
+ghost use Rattle.std.specs.Prelude.{◌≡◌, false};
+ghost use Rattle.octets.specs.Reading.{or_nothing};
 ghost use Rattle.source.specs.Source.{rest};
 ghost use Rattle.sink.specs.Sink.{Put};
-ghost use Rattle.times.specs.DateTime.{read_date_time, write_date_time};
 ghost use Rattle.times.specs.Letters.{cased};
-ghost use Rattle.times.specs.DateTimeAlong.{moment_by};
+ghost use Rattle.times.specs.DateTimeAlong.{date_time_of};
 ghost use Rattle.times.specs.Period.{read_period};
-ghost use Rattle.times.specs.PeriodAlong.{period_by};
+ghost use Rattle.times.specs.PeriodAlong.{period_upper};
 ghost use Rattle.times.specs.PeriodAt.{Cuts, Periods};
 ghost use Rattle.times.specs.PeriodWritten.{start_xml, end_xml, end_bytes};
 
 use crate::date_time::{
-    DateTimeRead, follow_date_time, moment_from, put_date_time, put_moment, read_date_time,
+    DateTime, follow_date_time, moment_from, put_date_time, put_moment, read_date_time,
 };
-use crate::duration::{DurationRead, put_duration, read_duration};
+use crate::duration::{put_duration, read_duration};
 use crate::letters::letter;
+use crate::time::Zone;
 use octets::unit::{SLASH, UPPER_Z};
 
-// Whether a slash stands after the start's digits, the kind of the zone before it, and the cursor after it.
-#[derive(Clone, Copy)]
+// The zone and the slash after the start's digits: the zone, and the cursor after the slash.
+#[derive(Clone, Copy, Debug, PartialEq, Eq)]
 pub struct Cut {
-    pub ok: bool,
-    pub k: usize,
+    pub zone: Zone,
     pub next: usize,
 }
 
-// The number of the start's digits and the kind of its zone, whether an end and not a duration follows the slash, and the cursor after it.
-#[derive(Clone, Copy)]
-pub enum PeriodRead {
-    Between(usize, usize, bool, usize),
-    NoPeriod,
+// The start, whether an end and not a duration follows the slash, and the cursor after the slash.
+#[derive(Clone, Copy, Debug, PartialEq, Eq)]
+pub struct Period {
+    pub start: DateTime,
+    pub explicit: bool,
+    pub at: usize,
 }
 
-fn slash_at(mode: usize, s: &[u8], at: usize) -> Cut
+fn slash_at(mode: usize, s: &[u8], at: usize) -> Option<Cut>
     ensures { Cuts mode s.now at result }
 {
     let a = letter(false, mode, s, at);
-    let u = a.u;
-    if u == SLASH {
-        return Cut {
-            ok: true,
-            k: 0,
+    if a.u == SLASH {
+        return Some(Cut {
+            zone: Zone::Local,
             next: a.next,
-        };
+        });
     }
-    if u == UPPER_Z {
-        let b = letter(false, mode, s, a.next);
-        let v = b.u;
-        if v == SLASH {
-            return Cut {
-                ok: true,
-                k: 1,
-                next: b.next,
-            };
-        }
-        return Cut {
-            ok: false,
-            k: 0,
-            next: at,
-        };
+    if a.u != UPPER_Z {
+        return None;
     }
-    Cut {
-        ok: false,
-        k: 0,
-        next: at,
+    let b = letter(false, mode, s, a.next);
+    if b.u == SLASH {
+        return Some(Cut {
+            zone: Zone::Utc,
+            next: b.next,
+        });
     }
+    None
 }
 
-// A period whose start is a date-time, and which has no end after its slash.
-fn with_duration(mode: usize, s: &[u8], n: usize, k: usize, at: usize) -> PeriodRead
-    requires { (is_read (moment_by n k) ≡ true) × (read_date_time ical (rest mode s.now at) ≡ none) }
-    ensures { Periods (period_by n k (cased false (rest mode s.now at))) mode s.now result }
+// The period with this start, and with what stands from the cursor `at`, after the slash.
+fn period_from(start: DateTime, mode: usize, s: &[u8], at: usize) -> Option<Period>
+    ensures { Periods (period_upper (date_time_of start) (cased false (rest mode s.now at))) mode s.now result }
 {
-    let d = read_duration(false, mode, s, at);
-    match d {
-        DurationRead::Span(neg, c) => PeriodRead::Between(n, k, false, at),
-        DurationRead::NoDuration => PeriodRead::NoPeriod,
+    if read_date_time(false, mode, s, at).is_some() {
+        return Some(Period {
+            start,
+            explicit: true,
+            at,
+        });
     }
+    read_duration(false, mode, s, at)?;
+    Some(Period {
+        start,
+        explicit: false,
+        at,
+    })
 }
 
-// A period whose start is a date-time.
-fn with_end(mode: usize, s: &[u8], n: usize, k: usize, at: usize) -> PeriodRead
-    requires { is_read (moment_by n k) ≡ true }
-    ensures { Periods (period_by n k (cased false (rest mode s.now at))) mode s.now result }
-{
-    let e = read_date_time(false, mode, s, at);
-    match e {
-        DateTimeRead::Moment(y, m, d, h, i, c, z) => PeriodRead::Between(n, k, true, at),
-        DateTimeRead::NoDateTime => with_duration(mode, s, n, k, at),
-    }
-}
-
-// The period whose start's digits are worth `n`, with what stands from the cursor `at`, after the slash.
-fn period_from(mode: usize, s: &[u8], n: usize, k: usize, at: usize) -> PeriodRead
-    ensures { Periods (period_by n k (cased false (rest mode s.now at))) mode s.now result }
-{
-    let b = moment_from(n, k);
-    match b {
-        DateTimeRead::Moment(y, m, d, h, i, c, z) => with_end(mode, s, n, k, at),
-        DateTimeRead::NoDateTime => PeriodRead::NoPeriod,
-    }
-}
-
-pub fn read_period(mode: usize, s: &[u8], at: usize) -> PeriodRead
+pub fn read_period(mode: usize, s: &[u8], at: usize) -> Option<Period>
     ensures { Periods (read_period (rest mode s.now at)) mode s.now result }
 {
-    let w = follow_date_time(false, mode, s, at);
-    let ok = w.ok;
-    if ok {
-        let c = slash_at(mode, s, w.next);
-        let cut = c.ok;
-        if cut {
-            return period_from(mode, s, w.n, c.k, c.next);
-        }
-        return PeriodRead::NoPeriod;
-    }
-    PeriodRead::NoPeriod
-}
-
-// The date-time of fourteen digits that are worth `n`, to XML.
-fn put_start(out: &mut [u8], o: usize, n: usize, k: usize) -> usize
-    ensures { Put out.old out.new o result (or_nothing (write_date_time xcal) (moment_by n k)) }
-{
-    let b = moment_from(n, k);
-    match b {
-        DateTimeRead::Moment(y, m, d, h, i, c, z) => put_moment(out, o, true, y, m, d, h, i, c, z),
-        DateTimeRead::NoDateTime => o,
-    }
+    let walk = follow_date_time(false, mode, s, at)?;
+    let cut = slash_at(mode, s, walk.next)?;
+    let start = moment_from(walk.number, cut.zone)?;
+    period_from(start, mode, s, cut.next)
 }
 
 // What stands after the slash, to XML.
@@ -137,9 +89,10 @@ fn put_end(out: &mut [u8], o: usize, explicit: bool, mode: usize, s: &[u8], at: 
     ensures { Put out.old out.new o result (end_bytes explicit (rest mode s.now at)) }
 {
     if explicit {
-        return put_date_time(out, o, false, true, mode, s, at);
+        put_date_time(out, o, false, true, mode, s, at)
+    } else {
+        put_duration(out, o, false, true, mode, s, at)
     }
-    put_duration(out, o, false, true, mode, s, at)
 }
 
 // The start of a period, to XML.
@@ -147,10 +100,9 @@ pub fn put_period_start(out: &mut [u8], o: usize, mode: usize, s: &[u8], at: usi
     ensures { Put out.old out.new o result
         (or_nothing start_xml (read_period (rest mode s.now at))) }
 {
-    let r = read_period(mode, s, at);
-    match r {
-        PeriodRead::Between(n, k, x, c) => put_start(out, o, n, k),
-        PeriodRead::NoPeriod => o,
+    match read_period(mode, s, at) {
+        Some(period) => put_moment(out, o, true, period.start),
+        None => o,
     }
 }
 
@@ -158,9 +110,8 @@ pub fn put_period_start(out: &mut [u8], o: usize, mode: usize, s: &[u8], at: usi
 pub fn put_period_end(out: &mut [u8], o: usize, mode: usize, s: &[u8], at: usize) -> usize
     ensures { Put out.old out.new o result (or_nothing end_xml (read_period (rest mode s.now at))) }
 {
-    let r = read_period(mode, s, at);
-    match r {
-        PeriodRead::Between(n, k, x, c) => put_end(out, o, x, mode, s, c),
-        PeriodRead::NoPeriod => o,
+    match read_period(mode, s, at) {
+        Some(period) => put_end(out, o, period.explicit, mode, s, period.at),
+        None => o,
     }
 }

@@ -4,6 +4,8 @@ ghost use Rattle.sink.specs.Sink.{Put};
 ghost use Rattle.times.specs.Digits.{two_digits};
 ghost use Rattle.times.specs.Written.{mark_bytes, marked, year_digits, day_bytes, clock_bytes};
 
+use crate::date::Date;
+use crate::time::Time;
 use sink::put;
 
 // The byte of the digit 0, to be added to a number.
@@ -22,10 +24,7 @@ pub fn put_two(out: &mut [u8], o: usize, n: u16) -> usize
 pub fn put_mark(out: &mut [u8], o: usize, on: bool, c: u8) -> usize
     ensures { Put out.old out.new o result (mark_bytes on c) }
 {
-    if on {
-        return put(out, o, c);
-    }
-    o
+    if on { put(out, o, c) } else { o }
 }
 
 pub fn put_marked(out: &mut [u8], o: usize, on: bool, c: u8, n: u8) -> usize
@@ -42,19 +41,19 @@ fn put_year(out: &mut [u8], o: usize, y: u16) -> usize
     put_two(out, p, y % 100)
 }
 
-pub fn put_day(out: &mut [u8], o: usize, to: bool, y: u16, m: u8, d: u8) -> usize
-    ensures { Put out.old out.new o result (day_bytes to y m d) }
+pub fn put_day(out: &mut [u8], o: usize, to: bool, date: Date) -> usize
+    ensures { Put out.old out.new o result (day_bytes to date.year date.month date.day) }
 {
-    let p = put_year(out, o, y);
-    let q = put_marked(out, p, to, b'-', m);
-    put_marked(out, q, to, b'-', d)
+    let p = put_year(out, o, date.year);
+    let q = put_marked(out, p, to, b'-', date.month);
+    put_marked(out, q, to, b'-', date.day)
 }
 
-pub fn put_clock(out: &mut [u8], o: usize, to: bool, h: u8, m: u8, s: u8, z: bool) -> usize
-    ensures { Put out.old out.new o result (clock_bytes to h m s z) }
+pub fn put_clock(out: &mut [u8], o: usize, to: bool, time: Time) -> usize
+    ensures { Put out.old out.new o result (clock_bytes to time.hour time.minute time.second time.utc) }
 {
-    let p = put_two(out, o, h as u16);
-    let q = put_marked(out, p, to, b':', m);
-    let e = put_marked(out, q, to, b':', s);
-    put_mark(out, e, z, b'Z')
+    let p = put_two(out, o, time.hour as u16);
+    let q = put_marked(out, p, to, b':', time.minute);
+    let e = put_marked(out, q, to, b':', time.second);
+    put_mark(out, e, time.utc, b'Z')
 }

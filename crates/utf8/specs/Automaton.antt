@@ -1,18 +1,10 @@
 -- The check as an automaton, a byte at a time, and that it finds what `first_bad` says.
---     found_of    what is answered
 --     start       where the check begins
 --     step        one byte more, at an index;   verdict: what is answered once there is none
-use Rattle.std.specs.Prelude.{Bool, true, false, ℕ, ◌-◌, eqb, leb}
-use Rattle.std.proofs.Math.Option.{Option, none, some}
-use Rattle.octets.specs.Pick.{pick, within}
+use Rattle.std.specs.Prelude.{Bool, true, false, ℕ, ◌-◌, eqb, leb, Option, None, Some}
+use Rattle.octets.specs.Pick.{pick, within, ◌and◌}
 use Rattle.utf8.specs.Utf8.{more, low, high, high_after}
-use Rattle.utf8.specs.declared.Found.{Found}
-use Rattle.utf8.specs.declared.Found.TheVariants.{At, Nothing}
 use Rattle.utf8.specs.declared.Reading.{Reading}
-
-abbrev pub found_of : Found → Option ℕ
-found_of (At i) = some i
-found_of Nothing = none
 
 -- n bytes are still to come, the next within lo and hi, in the sequence that began at index p
 abbrev pub reading : ℕ → ℕ → ℕ → Bool → Bool → ℕ → Reading
@@ -35,5 +27,5 @@ step st i b =
     (reading st.need st.low st.high st.last false st.start)))
     st
 
-abbrev pub verdict : Reading → Found
-verdict st = pick st.ok (pick (eqb st.need 0) Nothing (At st.start)) (At st.start)
+abbrev pub verdict : Reading → Option ℕ
+verdict st = pick (st.ok and eqb st.need 0) None (Some st.start)

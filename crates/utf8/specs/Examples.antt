@@ -1,6 +1,5 @@
 -- Computed examples of the character check and of spelling.
-use Rattle.std.specs.Prelude.{◌≡◌, refl, true, false, [], ◌∷◌, map}
-use Rattle.std.proofs.Math.Option.{none, some}
+use Rattle.std.specs.Prelude.{◌≡◌, refl, true, false, [], ◌∷◌, map, None, Some}
 use Rattle.octets.specs.Ascii.{ascii}
 use Rattle.utf8.specs.Utf8.{first_bad}
 use Rattle.utf8.specs.Spell.{spell, is_character}
@@ -14,13 +13,13 @@ allowed : map first_bad (
     (0xED ∷ 0x9F ∷ 0xBF ∷ 0xEE ∷ 0x80 ∷ 0x80 ∷ []) ∷
     (0xDF ∷ 0xBF ∷ 0xE0 ∷ 0xA0 ∷ 0x80 ∷ 0xF0 ∷ 0x90 ∷ 0x80 ∷ 0x80 ∷ 0xF4 ∷ 0x8F ∷ 0xBF ∷ 0xBF ∷ []) ∷
     (0xF0 ∷ 0x9F ∷ 0xBF ∷ 0xBF ∷ 0xEF ∷ 0xBE ∷ 0xBF ∷ []) ∷ [])
-    ≡ none ∷ none ∷ none ∷ none ∷ none ∷ none ∷ none ∷ []
+    ≡ None ∷ None ∷ None ∷ None ∷ None ∷ None ∷ None ∷ []
 unfolding utf8_compute
 allowed = refl
 
 -- NUL, US, DEL; U+FFFE, U+FFFF
 forbidden : map first_bad ((97 ∷ 0 ∷ []) ∷ (97 ∷ 98 ∷ 0x1F ∷ []) ∷ (0x7F ∷ []) ∷ (97 ∷ 0xEF ∷ 0xBF ∷ 0xBE ∷ []) ∷ (0xC3 ∷ 0xA9 ∷ 0xEF ∷ 0xBF ∷ 0xBF ∷ []) ∷ [])
-    ≡ some 1 ∷ some 2 ∷ some 0 ∷ some 1 ∷ some 2 ∷ []
+    ≡ Some 1 ∷ Some 2 ∷ Some 0 ∷ Some 1 ∷ Some 2 ∷ []
 unfolding utf8_compute
 forbidden = refl
 
@@ -29,7 +28,7 @@ ill_formed : map first_bad (
     (97 ∷ 0x80 ∷ []) ∷ (97 ∷ 0xE2 ∷ 0x82 ∷ []) ∷ (0xE2 ∷ 0x82 ∷ 97 ∷ []) ∷
     (0xC0 ∷ 0x80 ∷ []) ∷ (0xC1 ∷ 0xBF ∷ []) ∷ (97 ∷ 0xE0 ∷ 0x9F ∷ 0xBF ∷ []) ∷ (0xF0 ∷ 0x8F ∷ 0xBF ∷ 0xBF ∷ []) ∷
     (0xED ∷ 0xA0 ∷ 0x80 ∷ []) ∷ (0xF4 ∷ 0x90 ∷ 0x80 ∷ 0x80 ∷ []) ∷ (97 ∷ 98 ∷ 0xF5 ∷ 0x80 ∷ 0x80 ∷ 0x80 ∷ []) ∷ (0xC3 ∷ 0xC3 ∷ 0xA9 ∷ []) ∷ [])
-    ≡ some 1 ∷ some 1 ∷ some 0 ∷ some 0 ∷ some 0 ∷ some 1 ∷ some 0 ∷ some 0 ∷ some 0 ∷ some 2 ∷ some 0 ∷ []
+    ≡ Some 1 ∷ Some 1 ∷ Some 0 ∷ Some 0 ∷ Some 0 ∷ Some 1 ∷ Some 0 ∷ Some 0 ∷ Some 0 ∷ Some 2 ∷ Some 0 ∷ []
 unfolding utf8_compute
 ill_formed = refl
 

@@ -2,8 +2,7 @@
 -- except TAB, LF, CR, and without U+007F, U+FFFE, U+FFFF. C1 controls and U+FEFF are allowed.
 --     first_bad s     the index of the first byte of the first sequence that is no such character: where a decoder stands that has read whole characters so far
 --     well_formed s   whether there is none
-use Rattle.std.specs.Prelude.{Bool, true, false, List, [], ◌∷◌, ℕ, zero, suc, ◌+◌, eqb, leb}
-use Rattle.std.proofs.Math.Option.{Option, none, some}
+use Rattle.std.specs.Prelude.{Bool, true, false, List, [], ◌∷◌, ℕ, zero, suc, ◌+◌, eqb, leb, Option, None, Some}
 use Rattle.octets.specs.Pick.{pick, within, ◌and◌, ◌or◌}
 use Rattle.octets.specs.Class.{is_tail}
 use Rattle.octets.specs.Reading.{is_read}
@@ -43,9 +42,9 @@ is_sequence a s = leb (more a) 3 and tails (more a) (low a) (high a) (eqb a 0xEF
 
 -- i is the index of the front of s, and the first k bytes of s are of a character that began before
 unfoldable pub bad_from : ℕ → ℕ → List ℕ → Option ℕ
-bad_from k i [] = none
+bad_from k i [] = None
 bad_from (suc k) i (b ∷ s) = bad_from k (i + 1) s
-bad_from zero i (a ∷ s) = pick (is_sequence a s) (bad_from (more a) (i + 1) s) (some i)
+bad_from zero i (a ∷ s) = pick (is_sequence a s) (bad_from (more a) (i + 1) s) (Some i)
 
 abbrev pub first_bad : List ℕ → Option ℕ
 first_bad s = bad_from 0 0 s

@@ -8,41 +8,32 @@ use octets::is_within;
 use octets::unit::{LF, TAB};
 
 // Whether a reference may name the code point `c`.
+#[tactic(auto, using(octets::specs::laws::Pick::branching_joined, crate::specs::laws::SpellAt::character_tests))]
 pub fn is_character(c: usize) -> bool
     ensures { result ≡ is_character c }
 {
-    if is_within(0x20, 0x7E, c) {
-        return true;
-    }
-    if c == TAB {
-        return true;
-    }
-    if c == LF {
-        return true;
-    }
-    if is_within(0x80, 0xD7FF, c) {
-        return true;
-    }
-    if is_within(0xE000, 0xFFFD, c) {
-        return true;
-    }
-    is_within(0x10000, 0x10FFFF, c)
+    is_within(0x20, 0x7E, c)
+        || c == TAB
+        || c == LF
+        || is_within(0x80, 0xD7FF, c)
+        || is_within(0xE000, 0xFFFD, c)
+        || is_within(0x10000, 0x10FFFF, c)
 }
 
 // How many bytes a code point has.
+#[tactic(auto, using(crate::specs::laws::SpellAt::spelling))]
 pub fn spelled_length(c: usize) -> usize
     ensures { result ≡ length (spell c) }
 {
     if c < 0x80 {
-        return 1;
+        1
+    } else if c < 0x800 {
+        2
+    } else if c < 0x10000 {
+        3
+    } else {
+        4
     }
-    if c < 0x800 {
-        return 2;
-    }
-    if c < 0x10000 {
-        return 3;
-    }
-    4
 }
 
 // How many bits of a code point a byte after the first has.
@@ -59,46 +50,34 @@ fn tail(x: usize) -> usize
 fn of_two(c: usize, k: usize) -> usize
     ensures { result ≡ two_of c k }
 {
-    if k == 0 {
-        return 0xC0 + high_bits(c, TAIL_BITS);
+    match k {
+        0 => 0xC0 + high_bits(c, TAIL_BITS),
+        1 => tail(c),
+        _ => 0,
     }
-    if k == 1 {
-        return tail(c);
-    }
-    0
 }
 
 fn of_three(c: usize, k: usize) -> usize
     ensures { result ≡ three_of c k }
 {
-    if k == 0 {
-        return 0xE0 + high_bits(c, 2 * TAIL_BITS);
+    match k {
+        0 => 0xE0 + high_bits(c, 2 * TAIL_BITS),
+        1 => tail(high_bits(c, TAIL_BITS)),
+        2 => tail(c),
+        _ => 0,
     }
-    if k == 1 {
-        return tail(high_bits(c, TAIL_BITS));
-    }
-    if k == 2 {
-        return tail(c);
-    }
-    0
 }
 
 fn of_four(c: usize, k: usize) -> usize
     ensures { result ≡ four_of c k }
 {
-    if k == 0 {
-        return 0xF0 + high_bits(c, 3 * TAIL_BITS);
+    match k {
+        0 => 0xF0 + high_bits(c, 3 * TAIL_BITS),
+        1 => tail(high_bits(c, 2 * TAIL_BITS)),
+        2 => tail(high_bits(c, TAIL_BITS)),
+        3 => tail(c),
+        _ => 0,
     }
-    if k == 1 {
-        return tail(high_bits(c, 2 * TAIL_BITS));
-    }
-    if k == 2 {
-        return tail(high_bits(c, TAIL_BITS));
-    }
-    if k == 3 {
-        return tail(c);
-    }
-    0
 }
 
 // Byte number `k` of a code point, 0 where it has fewer.
@@ -107,16 +86,12 @@ pub fn spelled_byte(c: usize, k: usize) -> usize
     ensures { (result ≡ get_or (spell c) k 0) × (result < 256) }
 {
     if c < 0x80 {
-        if k == 0 {
-            return c;
-        }
-        return 0;
+        if k == 0 { c } else { 0 }
+    } else if c < 0x800 {
+        of_two(c, k)
+    } else if c < 0x10000 {
+        of_three(c, k)
+    } else {
+        of_four(c, k)
     }
-    if c < 0x800 {
-        return of_two(c, k);
-    }
-    if c < 0x10000 {
-        return of_three(c, k);
-    }
-    of_four(c, k)
 }

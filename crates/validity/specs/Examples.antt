@@ -3,8 +3,7 @@
 --     variants      small changes to an event, and whether the calendar is still valid
 --     fleets        unrecognised components, with others inside them and nine levels deep
 --     invited       an event without DTSTART, in a calendar without METHOD and in one with it
-use Rattle.std.specs.Prelude.{◌≡◌, refl, true, false, List, [], ◌∷◌, map, ℕ}
-use Rattle.std.proofs.Math.Option.{none, some}
+use Rattle.std.specs.Prelude.{◌≡◌, refl, true, false, List, [], ◌∷◌, map, ℕ, None, Some}
 use Rattle.octets.specs.Ascii.{ascii}
 use Rattle.calendar.specs.Calendar.{moment, word, weekday, Value, binary, boolean, cal_address, date, date_time, integer, period_start, recur, text, uri, unknown, geo, request_status, Parameter, Property, Components, no_more, component}
 use Rattle.edition.specs.declared.Edition.TheVariants.{Rfc5545, Rfc6868}
@@ -30,11 +29,11 @@ rota = calendar (
     prop (ascii "SUMMARY") (text (ascii "a < b & c\nd") ∷ [])
     ∷ prop (ascii "CATEGORIES") (text (ascii "x") ∷ text (ascii "y,z") ∷ [])
     ∷ prop (ascii "GEO") (geo (record { minus = false; before = ascii "37"; after = ascii "386" }) (record { minus = true; before = ascii "122"; after = [] }) ∷ [])
-    ∷ prop (ascii "REQUEST-STATUS") (request_status (ascii "2.0") (ascii "Done; all") (some []) ∷ [])
+    ∷ prop (ascii "REQUEST-STATUS") (request_status (ascii "2.0") (ascii "Done; all") (Some []) ∷ [])
     ∷ prop (ascii "RRULE") (recur (
     record { part = ascii "FREQ"; items = word (ascii "MONTHLY") ∷ [] }
     ∷ record { part = ascii "UNTIL"; items = moment (ascii "20301231") ∷ [] }
-    ∷ record { part = ascii "BYDAY"; items = weekday (some (record { negative = true; magnitude = 1 })) (ascii "SU") ∷ weekday none (ascii "FR") ∷ [] }
+    ∷ record { part = ascii "BYDAY"; items = weekday (Some (record { negative = true; magnitude = 1 })) (ascii "SU") ∷ weekday None (ascii "FR") ∷ [] }
     ∷ []) ∷ [])
     ∷ prop (ascii "RDATE") (period_start (ascii "20240504T080000") (ascii "PT1H") ∷ period_start (ascii "20240505T080000Z") (ascii "-P1W") ∷ [])
     ∷ record { name = ascii "ATTACH"; parameters = param (ascii "ENCODING") (text (ascii "BASE64") ∷ []) ∷ []; values = binary (ascii "AAAA") ∷ [] }

@@ -1,7 +1,6 @@
 -- A value read from iCalendar text and written as the character data of its XML element.
 --     xml_of       the character data of what was read; nothing where nothing was read
-use Rattle.std.specs.Prelude.{List, ℕ}
-use Rattle.std.proofs.Math.Option.{Option}
+use Rattle.std.specs.Prelude.{List, ℕ, Option}
 use Rattle.octets.specs.Reading.{or_nothing}
 use Rattle.calendar.specs.Calendar.{Value}
 use Rattle.xml.specs.Escape.{escaped}

@@ -3,8 +3,7 @@
 --     are_property_values  the values of a property in a component: of one permitted type, and words of its closed set where it has one
 --     is_property          a property of a component: such values, and parameters that it permits, each once; BINARY with ENCODING=BASE64
 -- How often a property stands in a component is no part of this.
-use Rattle.std.specs.Prelude.{Bool, false, not, List, [], ◌∷◌, map, ℕ}
-use Rattle.std.proofs.Math.Option.{Option, none, some}
+use Rattle.std.specs.Prelude.{Bool, false, not, List, [], ◌∷◌, map, ℕ, Option, None, Some}
 use Rattle.octets.specs.Ascii.{ascii}
 use Rattle.octets.specs.Pick.{pick, ◌and◌, ◌or◌}
 use Rattle.octets.specs.Class.{upper}
@@ -30,13 +29,13 @@ is_of_type t v = same_type (type_of v) t and is_typed v and is_value v
 
 -- one of these words
 abbrev pub is_word_in : List (List ℕ) → Option (List ℕ) → Bool
-is_word_in words none = false
-is_word_in words (some s) = is_one_of s words
+is_word_in words None = false
+is_word_in words (Some s) = is_one_of s words
 
 -- a value of a type, or a word of a closed set
 abbrev pub is_chosen : Option (List (List ℕ)) → ValueType → Value → Bool
-is_chosen none t v = is_of_type t v
-is_chosen (some words) t v = is_word_in words (text_in v)
+is_chosen None t v = is_of_type t v
+is_chosen (Some words) t v = is_word_in words (text_in v)
 
 -- ---- parameters
 
@@ -45,8 +44,8 @@ abbrev pub is_of_parameter : ValueType → Value → Bool
 is_of_parameter t v = same_type (type_of v) t and is_typed v and (same_type (type_of v) UNKNOWN or is_value v)
 
 abbrev pub is_parameter_value : Option (List (List ℕ)) → ValueType → Value → Bool
-is_parameter_value none t v = is_of_parameter t v
-is_parameter_value (some words) t v = is_word_in words (text_in v)
+is_parameter_value None t v = is_of_parameter t v
+is_parameter_value (Some words) t v = is_word_in words (text_in v)
 
 -- the name is in capitals. VALUE is none: the type stands on the value
 unfoldable pub is_parameter : Parameter → Bool

@@ -2,19 +2,17 @@
 --     value_read   the answer of `read_value`: the type's number where there is a value
 --     is_read_at   whether a value of a type is read in an encoding: as `read_value` says, but that RECUR of text is read only where that can be cut
 --     from_binary  the type of a number; from_date, from_integer, from_time: the same without the types before DATE, INTEGER, TIME
-use Rattle.std.specs.Prelude.{Bool, true, false, not, List, ℕ, eqb}
+use Rattle.std.specs.Prelude.{Bool, true, false, not, List, ℕ, eqb, Option, None, Some}
 use Rattle.octets.specs.Pick.{pick, ◌and◌, ◌or◌}
 use Rattle.octets.specs.Reading.{is_read}
 use Rattle.source.specs.Source.{cuts}
 use Rattle.schema.specs.Types.{type_place}
 use Rattle.values.specs.ReadValue.{read_value}
 use Rattle.calendar.specs.Calendar.{format_of, ValueType, BINARY, BOOLEAN, CAL-ADDRESS, DATE, DATE-TIME, DURATION, FLOAT, INTEGER, PERIOD, RECUR, TEXT, TIME, URI, UTC-OFFSET, UNKNOWN}
-use Rattle.values.specs.declared.ValueRead.{ValueRead}
-use Rattle.values.specs.declared.ValueRead.TheVariants.{Good, Bad}
 
-abbrev pub value_read : ℕ → Bool → ValueRead
-value_read t true = Good t
-value_read t false = Bad
+abbrev pub value_read : ℕ → Bool → Option ℕ
+value_read t true = Some t
+value_read t false = None
 
 -- from XML or not, in the encoding m, of the type t; 9 is RECUR
 unfoldable pub is_read_at : Bool → ℕ → ValueType → List ℕ → Bool

@@ -4,7 +4,6 @@ ghost use Rattle.source.specs.Source.{rest};
 ghost use Rattle.schema.specs.Numbers.{type_at};
 ghost use Rattle.values.specs.ValueAt.{from_time, from_integer, from_date, from_binary, value_read, is_read_at};
 
-use crate::ValueRead;
 use crate::number::{is_boolean, is_float, is_integer};
 use crate::text::{is_binary, is_cal_address, is_recur, is_text, is_unknown, is_uri};
 use crate::time::{is_date, is_date_time, is_duration, is_period, is_time, is_utc_offset};
@@ -80,13 +79,12 @@ fn is_from_binary(xcal: bool, t: usize, mode: usize, s: &[u8], at: usize) -> boo
     is_from_date(xcal, t, mode, s, at)
 }
 
-// The value of the type at the place `t`, from the cursor to the end; RECUR of text only in an encoding that can be cut.
-pub fn read_value(xcal: bool, t: usize, mode: usize, s: &[u8], at: usize) -> ValueRead
+// The number `t` of the type, where there is a value of it from the cursor to the end; RECUR of text only in an encoding that can be cut.
+pub fn read_value(xcal: bool, t: usize, mode: usize, s: &[u8], at: usize) -> Option<usize>
     ensures { result ≡ value_read t (is_read_at xcal mode (type_at t) (rest mode s.now at)) }
 {
-    let ok = is_from_binary(xcal, t, mode, s, at);
-    if ok {
-        return ValueRead::Good(t);
+    if is_from_binary(xcal, t, mode, s, at) {
+        return Some(t);
     }
-    ValueRead::Bad
+    None
 }

@@ -9,10 +9,3 @@ mod time;
 
 pub use any::read_value;
 pub use put::put_value_xml;
-
-// There is a value, of the type of this number; or none.
-#[derive(Clone, Copy)]
-pub enum ValueRead {
-    Good(usize),
-    Bad,
-}

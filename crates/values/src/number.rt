@@ -5,36 +5,24 @@ ghost use Rattle.calendar.specs.Calendar.{format_of, BOOLEAN, FLOAT, INTEGER};
 ghost use Rattle.source.specs.Source.{rest};
 ghost use Rattle.values.specs.ReadValue.{read_value};
 
-use numbers::boolean::{BooleanRead, read_boolean};
-use numbers::float::{FloatRead, read_float};
-use numbers::integer::{IntegerRead, read_integer};
+use numbers::boolean::read_boolean;
+use numbers::float::read_float;
+use numbers::integer::read_integer;
 
 pub fn is_boolean(xcal: bool, mode: usize, s: &[u8], at: usize) -> bool
     ensures { result ≡ is_read (read_value (format_of xcal) BOOLEAN (rest mode s.now at)) }
 {
-    let r = read_boolean(xcal, mode, s, at);
-    match r {
-        BooleanRead::Truth(b) => true,
-        BooleanRead::Bad => false,
-    }
+    read_boolean(xcal, mode, s, at).is_some()
 }
 
 pub fn is_float(xcal: bool, mode: usize, s: &[u8], at: usize) -> bool
     ensures { result ≡ is_read (read_value (format_of xcal) FLOAT (rest mode s.now at)) }
 {
-    let r = read_float(mode, s, at);
-    match r {
-        FloatRead::Good(neg, c, f) => true,
-        FloatRead::Bad => false,
-    }
+    read_float(mode, s, at).is_some()
 }
 
 pub fn is_integer(xcal: bool, mode: usize, s: &[u8], at: usize) -> bool
     ensures { result ≡ is_read (read_value (format_of xcal) INTEGER (rest mode s.now at)) }
 {
-    let r = read_integer(mode, s, at);
-    match r {
-        IntegerRead::Value(neg, n) => true,
-        IntegerRead::Bad => false,
-    }
+    read_integer(mode, s, at).is_some()
 }

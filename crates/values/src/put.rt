@@ -10,7 +10,7 @@ ghost use Rattle.values.specs.WriteValue.{value_characters};
 ghost use Rattle.values.specs.ValueAt.{from_time, from_integer, from_date, from_binary};
 ghost use Rattle.values.specs.PutValue.{xml_of};
 
-use numbers::boolean::{BooleanRead, put_boolean, read_boolean};
+use numbers::boolean::{put_boolean, read_boolean};
 use numbers::float::put_float;
 use numbers::integer::put_integer;
 use schema::value_type;
@@ -25,10 +25,9 @@ fn put_boolean_xml(out: &mut [u8], o: usize, mode: usize, s: &[u8], at: usize) -
     ensures { Put out.old out.new o result
         (xml_of (read_value ical BOOLEAN (rest mode s.now at))) }
 {
-    let r = read_boolean(false, mode, s, at);
-    match r {
-        BooleanRead::Truth(b) => put_boolean(out, o, true, b),
-        BooleanRead::Bad => o,
+    match read_boolean(false, mode, s, at) {
+        Some(b) => put_boolean(out, o, true, b),
+        None => o,
     }
 }
 

@@ -1,38 +1,24 @@
 // BINARY, CAL-ADDRESS, RECUR, TEXT, URI and values of no known type: whether there is a value from the cursor to the end.
-ghost use Rattle.std.specs.Prelude.{◌≡◌, true};
+ghost use Rattle.std.specs.Prelude.{◌≡◌};
 ghost use Rattle.octets.specs.Reading.{is_read};
 ghost use Rattle.calendar.specs.Calendar.{format_of, BINARY, CAL-ADDRESS, RECUR, TEXT, URI, UNKNOWN};
-ghost use Rattle.source.specs.Source.{rest, cuts};
-ghost use Rattle.recur.specs.Rule.{read_rule};
+ghost use Rattle.source.specs.Source.{rest};
 ghost use Rattle.values.specs.ReadValue.{read_value};
 ghost use Rattle.values.specs.ValueAt.{is_read_at};
 
-use recur::rule::{RuleRead, read_rule};
-use texts::{is_kept, read_binary, read_one_text, read_unknown, read_uri};
+use recur::rule::read_rule;
+use texts::{read_binary, read_one_text, read_unknown, read_uri};
 
 pub fn is_binary(xcal: bool, mode: usize, s: &[u8], at: usize) -> bool
     ensures { result ≡ is_read (read_value (format_of xcal) BINARY (rest mode s.now at)) }
 {
-    let k = read_binary(xcal, mode, s, at);
-    is_kept(k)
+    read_binary(xcal, mode, s, at)
 }
 
 pub fn is_cal_address(xcal: bool, mode: usize, s: &[u8], at: usize) -> bool
     ensures { result ≡ is_read (read_value (format_of xcal) CAL-ADDRESS (rest mode s.now at)) }
 {
-    let k = read_uri(mode, s, at);
-    is_kept(k)
-}
-
-fn is_rule(mode: usize, s: &[u8], at: usize) -> bool
-    requires { cuts mode ≡ true }
-    ensures { result ≡ is_read (read_rule (rest mode s.now at)) }
-{
-    let r = read_rule(mode, s, at);
-    match r {
-        RuleRead::Rule => true,
-        RuleRead::Bad => false,
-    }
+    read_uri(mode, s, at)
 }
 
 // RECUR is made of elements in XML, and in text it is read in an encoding that can be cut.
@@ -43,10 +29,10 @@ pub fn is_recur(xcal: bool, mode: usize, s: &[u8], at: usize) -> bool
         return false;
     }
     if mode == 0 {
-        return is_rule(mode, s, at);
+        return read_rule(mode, s, at);
     }
     if mode == 2 {
-        return is_rule(mode, s, at);
+        return read_rule(mode, s, at);
     }
     false
 }
@@ -58,20 +44,17 @@ pub fn is_text(xcal: bool, mode: usize, s: &[u8], at: usize) -> bool
     if xcal {
         return true;
     }
-    let k = read_one_text(mode, s, at);
-    is_kept(k)
+    read_one_text(mode, s, at)
 }
 
 pub fn is_uri(xcal: bool, mode: usize, s: &[u8], at: usize) -> bool
     ensures { result ≡ is_read (read_value (format_of xcal) URI (rest mode s.now at)) }
 {
-    let k = read_uri(mode, s, at);
-    is_kept(k)
+    read_uri(mode, s, at)
 }
 
 pub fn is_unknown(xcal: bool, mode: usize, s: &[u8], at: usize) -> bool
     ensures { result ≡ is_read (read_value (format_of xcal) UNKNOWN (rest mode s.now at)) }
 {
-    let k = read_unknown(mode, s, at);
-    is_kept(k)
+    read_unknown(mode, s, at)
 }

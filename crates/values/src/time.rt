@@ -5,41 +5,29 @@ ghost use Rattle.calendar.specs.Calendar.{format_of, DATE, DATE-TIME, DURATION, 
 ghost use Rattle.source.specs.Source.{rest};
 ghost use Rattle.values.specs.ReadValue.{read_value};
 
-use times::date::{DateRead, read_date};
-use times::date_time::{DateTimeRead, read_date_time};
-use times::duration::{DurationRead, read_duration};
-use times::offset::{OffsetRead, read_utc_offset};
-use times::period::{PeriodRead, read_period};
-use times::time::{TimeRead, read_time};
+use times::date::read_date;
+use times::date_time::read_date_time;
+use times::duration::read_duration;
+use times::offset::read_utc_offset;
+use times::period::read_period;
+use times::time::read_time;
 
 pub fn is_date(xcal: bool, mode: usize, s: &[u8], at: usize) -> bool
     ensures { result ≡ is_read (read_value (format_of xcal) DATE (rest mode s.now at)) }
 {
-    let r = read_date(xcal, mode, s, at);
-    match r {
-        DateRead::Day(y, m, d) => true,
-        DateRead::NoDate => false,
-    }
+    read_date(xcal, mode, s, at).is_some()
 }
 
 pub fn is_date_time(xcal: bool, mode: usize, s: &[u8], at: usize) -> bool
     ensures { result ≡ is_read (read_value (format_of xcal) DATE-TIME (rest mode s.now at)) }
 {
-    let r = read_date_time(xcal, mode, s, at);
-    match r {
-        DateTimeRead::Moment(y, m, d, h, i, c, z) => true,
-        DateTimeRead::NoDateTime => false,
-    }
+    read_date_time(xcal, mode, s, at).is_some()
 }
 
 pub fn is_duration(xcal: bool, mode: usize, s: &[u8], at: usize) -> bool
     ensures { result ≡ is_read (read_value (format_of xcal) DURATION (rest mode s.now at)) }
 {
-    let r = read_duration(xcal, mode, s, at);
-    match r {
-        DurationRead::Span(neg, c) => true,
-        DurationRead::NoDuration => false,
-    }
+    read_duration(xcal, mode, s, at).is_some()
 }
 
 // PERIOD is made of elements in XML.
@@ -49,29 +37,17 @@ pub fn is_period(xcal: bool, mode: usize, s: &[u8], at: usize) -> bool
     if xcal {
         return false;
     }
-    let r = read_period(mode, s, at);
-    match r {
-        PeriodRead::Between(n, k, x, c) => true,
-        PeriodRead::NoPeriod => false,
-    }
+    read_period(mode, s, at).is_some()
 }
 
 pub fn is_time(xcal: bool, mode: usize, s: &[u8], at: usize) -> bool
     ensures { result ≡ is_read (read_value (format_of xcal) TIME (rest mode s.now at)) }
 {
-    let r = read_time(xcal, mode, s, at);
-    match r {
-        TimeRead::Clock(h, m, c, z) => true,
-        TimeRead::NoTime => false,
-    }
+    read_time(xcal, mode, s, at).is_some()
 }
 
 pub fn is_utc_offset(xcal: bool, mode: usize, s: &[u8], at: usize) -> bool
     ensures { result ≡ is_read (read_value (format_of xcal) UTC-OFFSET (rest mode s.now at)) }
 {
-    let r = read_utc_offset(xcal, mode, s, at);
-    match r {
-        OffsetRead::Shift(neg, h, m, c, w) => true,
-        OffsetRead::NoOffset => false,
-    }
+    read_utc_offset(xcal, mode, s, at).is_some()
 }

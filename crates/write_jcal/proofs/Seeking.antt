@@ -1,5 +1,7 @@
 -- The way to the next component, line by line.
 --     Seeking    the invariant;   `search seekings`
+use Prim.{tt}
+use Rattle.std.specs.Prelude.{None, Some}
 use mathlib.Core.Path.{◌≡◌, refl, sym, ap, ◌∙◌}
 use mathlib.Core.Bool.{true, false}
 use mathlib.Core.List.{List}
@@ -33,15 +35,15 @@ module _ {ed : Edition} where
     pub seeking_ready : Ready mode s at
     seeking_ready = m.ready
 
-    pub seeking_end : length s ≤ at → NextBegun ed mode s from (record { there = false; next = at })
-    seeking_end h = record { onward = m.low; ready = m.ready; begins = sym m.is ∙ ap (λ (es : List Entry). inner_of es 0) (entries_past ed mode s at m.ready.cut h) ∙ inner_past }
+    pub seeking_end : length s ≤ at → NextBegun ed mode s from None
+    seeking_end h = record { none = sym m.is ∙ ap (λ (es : List Entry). inner_of es 0) (entries_past ed mode s at m.ready.cut h) ∙ inner_past; begins = tt }
 
     module _ {r : Found} (f : BoundAt ed mode s at r) where
-      pub seeking_begin : r.kind ≡ Begin → NextBegun ed mode s from (record { there = true; next = r.next })
-      seeking_begin q = record { onward = omega (arith, m.low, f.onward); ready = f.ready; begins = (_, sym m.is ∙ ap (λ (es : List Entry). inner_of es 0) (bound_kind f Begin q)) }
+      pub seeking_begin : r.kind ≡ Begin → NextBegun ed mode s from (Some r.next)
+      seeking_begin q = record { none = tt; begins = record { onward = omega (arith, m.low, f.onward); ready = f.ready; name = _; is = sym m.is ∙ ap (λ (es : List Entry). inner_of es 0) (bound_kind f Begin q) } }
 
-      pub seeking_over : r.kind ≡ End → NextBegun ed mode s from (record { there = false; next = at })
-      seeking_over q = record { onward = m.low; ready = m.ready; begins = sym m.is ∙ ap (λ (es : List Entry). inner_of es 0) (bound_kind f End q) ∙ inner_closed _ }
+      pub seeking_over : r.kind ≡ End → NextBegun ed mode s from None
+      seeking_over q = record { none = sym m.is ∙ ap (λ (es : List Entry). inner_of es 0) (bound_kind f End q) ∙ inner_closed _; begins = tt }
 
       aside : Aside ed mode s at r.next → Seeking ed mode s from r.next
       aside i = record { low = omega (arith, m.low, f.onward); ready = f.ready; is = sym (ap (λ (es : List Entry). inner_of es 0) i.first ∙ inner_beside _ i.entry i.aside) ∙ m.is }

@@ -8,47 +8,21 @@ ghost use Rattle.write_jcal.specs.Alone.{is_alone, NextBegun};
 use edition::Edition;
 use text_entries::{Kind, bound_at, pass_component};
 
-// The next component: whether there is one, and the cursor behind its BEGIN.
-#[derive(Clone, Copy)]
-pub struct Begun {
-    pub there: bool,
-    pub next: usize,
-}
-
-// The first component that the lines from `from` on begin, up to the end of the one that they stand in.
-fn next_begin(edition: Edition, mode: usize, s: &[u8], from: usize) -> Begun
+// The cursor behind the BEGIN of the first component that the lines from `from` on begin, up to the end of the one that they stand in.
+fn next_begin(edition: Edition, mode: usize, s: &[u8], from: usize) -> Option<usize>
     requires { Ready mode s.now from }
     ensures { NextBegun edition mode s.now from result }
 {
     let mut at = from;
     while at < s.len() {
         let f = bound_at(edition, mode, s, at);
-        let kind = f.kind;
-        match kind {
-            Kind::Begin => {
-                return Begun {
-                    there: true,
-                    next: f.next,
-                };
-            }
-            Kind::End => {
-                return Begun {
-                    there: false,
-                    next: at,
-                };
-            }
-            Kind::Property => {
-                at = f.next;
-            }
-            Kind::Nothing => {
-                at = f.next;
-            }
+        match f.kind {
+            Kind::Begin => return Some(f.next),
+            Kind::End => return None,
+            Kind::Property | Kind::Nothing => at = f.next,
         }
     }
-    Begun {
-        there: false,
-        next: at,
-    }
+    None
 }
 
 // There is one component, and not another.
@@ -56,14 +30,9 @@ pub fn is_alone(edition: Edition, mode: usize, s: &[u8], from: usize) -> bool
     requires { Ready mode s.now from }
     ensures { result ≡ is_alone (inner_of (entries_at edition mode s.now from) 0) }
 {
-    let a = next_begin(edition, mode, s, from);
-    if a.there {
-        let e = pass_component(edition, mode, s, a.next);
-        let b = next_begin(edition, mode, s, e);
-        if b.there {
-            return false;
-        }
-        return true;
-    }
-    false
+    let Some(first) = next_begin(edition, mode, s, from) else {
+        return false;
+    };
+    let end = pass_component(edition, mode, s, first);
+    next_begin(edition, mode, s, end).is_none()
 }

@@ -89,8 +89,7 @@ pub fn put_components(
     let mut at = from;
     while at < s.len() {
         let f = bound_at(edition, mode, s, at);
-        let kind = f.kind;
-        match kind {
+        match f.kind {
             Kind::Begin => {
                 let l = f.line;
                 let h = put_head(

@@ -71,8 +71,7 @@ fn put_leading(
     let mut at = from;
     while at < s.len() {
         let f = entry_at(edition, mode, s, at);
-        let kind = f.kind;
-        match kind {
+        match f.kind {
             Kind::Begin => {
                 let ahead = Ahead {
                     inner: at,
@@ -140,8 +139,7 @@ fn put_following(
     let mut at = from;
     while at < s.len() {
         let f = entry_at(edition, mode, s, at);
-        let kind = f.kind;
-        match kind {
+        match f.kind {
             Kind::Begin => {
                 at = pass_component(edition, mode, s, f.next);
             }

@@ -26,25 +26,15 @@ fn put_each(out: &mut [u8], o: usize, edition: Edition, mode: usize, s: &[u8], a
     let mut q = o;
     let mut started = false;
     let mut c = at;
-    loop {
-        let p = next_param(mode, s, c);
-        if p.there {
-            if p.ok {
-                let value = is_value_name(mode, s, p.name, p.end);
-                if value {
-                    c = p.next;
-                } else {
-                    q = put_member(out, q, started, edition, mode, s, p.name, p.end, p.first);
-                    started = true;
-                    c = p.next;
-                }
-            } else {
-                return q;
-            }
-        } else {
-            return q;
+    while let Ok(Some(p)) = next_param(mode, s, c) {
+        c = p.next;
+        if is_value_name(mode, s, p.name, p.end) {
+            continue;
         }
+        q = put_member(out, q, started, edition, mode, s, p.name, p.end, p.first);
+        started = true;
     }
+    q
 }
 
 fn put_object(out: &mut [u8], o: usize, edition: Edition, mode: usize, s: &[u8], at: usize) -> usize
@@ -70,8 +60,7 @@ pub fn put_parameters(
     ensures { Put out.old out.new o result
         (object_of (map parameter_json (read_or [] (read_parameters (params_in edition mode s.now e))))) }
 {
-    let read = are_read(edition, mode, s, e);
-    if read {
+    if are_read(edition, mode, s, e) {
         return put_object(out, o, edition, mode, s, e);
     }
     put_all(out, o, b"{}")

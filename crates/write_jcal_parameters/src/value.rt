@@ -20,13 +20,13 @@ ghost use Rattle.jcal.specs.WriteJcal.{one_or_array};
 ghost use Rattle.write_jcal_parameters.specs.Shown.{truth_string, string_of, value_shown, chars_in, row_at};
 
 use edition::Edition;
-use numbers::boolean::{BooleanRead, read_boolean};
+use numbers::boolean::read_boolean;
 use octets::smaller;
 use read_text_line::{next_value, param_value};
 use schema::{parameter_has_words, parameter_type, value_type};
 use sink::{put, put_all};
 use source::value_mode;
-use values::{ValueRead, read_value};
+use values::read_value;
 use write_jcal_value::put_characters;
 use write_json::{put_capitals_quoted, put_quoted};
 
@@ -44,10 +44,9 @@ fn put_boolean_string(out: &mut [u8], o: usize, mode: usize, s: &[u8], at: usize
     ensures { Put out.old out.new o result
         (or_nothing string_of (read_value ical BOOLEAN (rest mode s.now at))) }
 {
-    let r = read_boolean(false, mode, s, at);
-    match r {
-        BooleanRead::Truth(b) => put_truth(out, o, b),
-        BooleanRead::Bad => o,
+    match read_boolean(false, mode, s, at) {
+        Some(b) => put_truth(out, o, b),
+        None => o,
     }
 }
 
@@ -70,10 +69,9 @@ fn put_typed(out: &mut [u8], o: usize, t: usize, mode: usize, s: &[u8], at: usiz
     if t == value_type::BOOLEAN {
         return put_boolean_string(out, o, mode, s, at);
     }
-    let r = read_value(false, t, mode, s, at);
-    match r {
-        ValueRead::Good(k) => put_string(out, o, t, mode, s, at),
-        ValueRead::Bad => o,
+    match read_value(false, t, mode, s, at) {
+        Some(_) => put_string(out, o, t, mode, s, at),
+        None => o,
     }
 }
 
@@ -132,20 +130,12 @@ fn put_next_values(
 {
     let mut p = o;
     let mut c = at;
-    loop {
-        let v = next_value(mode, s, c);
-        if v.there {
-            if v.ok {
-                let a = put(out, p, b',');
-                p = put_cut_value(out, a, edition, q, mode, s, v.from, v.to);
-                c = v.next;
-            } else {
-                return p;
-            }
-        } else {
-            return p;
-        }
+    while let Ok(Some(v)) = next_value(mode, s, c) {
+        let a = put(out, p, b',');
+        p = put_cut_value(out, a, edition, q, mode, s, v.from, v.to);
+        c = v.next;
     }
+    p
 }
 
 // Another value follows.
@@ -153,11 +143,7 @@ fn has_next_value(mode: usize, s: &[u8], at: usize) -> bool
     requires { cuts mode ≡ true }
     ensures { result ≡ not (is_empty (items next_value (rest mode s.now at))) }
 {
-    let v = next_value(mode, s, at);
-    if v.there {
-        return v.ok;
-    }
-    false
+    matches!(next_value(mode, s, at), Ok(Some(_)))
 }
 
 // The value from the cursor `from` to the cursor `to`, and those that follow from the cursor `next` on.
@@ -198,13 +184,11 @@ pub fn put_values(
     ensures { Put out.old out.new o result
         (one_or_array (map (chars_in edition (row_at q)) (values_at mode s.now at))) }
 {
-    let v = param_value(mode, s, at);
-    if v.ok {
-        let several = has_next_value(mode, s, v.next);
-        if several {
-            return put_several(out, o, edition, q, mode, s, v.from, v.to, v.next);
-        }
-        return put_cut_value(out, o, edition, q, mode, s, v.from, v.to);
+    let Ok(v) = param_value(mode, s, at) else {
+        return put_all(out, o, b"[]");
+    };
+    if has_next_value(mode, s, v.next) {
+        return put_several(out, o, edition, q, mode, s, v.from, v.to, v.next);
     }
-    put_all(out, o, b"[]")
+    put_cut_value(out, o, edition, q, mode, s, v.from, v.to)
 }

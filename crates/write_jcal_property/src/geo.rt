@@ -11,7 +11,7 @@ ghost use Rattle.jcal.specs.WriteJcal.{value_json};
 ghost use Rattle.write_jcal_property.specs.Geo.{coordinates_json};
 
 use numbers::float::{put_float, put_float_to};
-use numbers::geo::{GeoRead, read_geo};
+use numbers::geo::read_geo;
 use octets::unit::SEMICOLON;
 use sink::put;
 
@@ -46,8 +46,8 @@ fn put_coordinates(out: &mut [u8], o: usize, mode: usize, s: &[u8], at: usize, g
 pub fn put_geo(out: &mut [u8], o: usize, mode: usize, s: &[u8], at: usize) -> usize
     ensures { Put out.old out.new o result (or_nothing value_json (read_geo (rest mode s.now at))) }
 {
-    let GeoRead::At(g) = read_geo(mode, s, at) else {
+    let Some(longitude) = read_geo(mode, s, at) else {
         return o;
     };
-    put_coordinates(out, o, mode, s, at, g)
+    put_coordinates(out, o, mode, s, at, longitude)
 }

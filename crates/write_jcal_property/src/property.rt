@@ -7,7 +7,7 @@ ghost use Rattle.write_jcal_property.specs.Property.{name_json, stated_json, con
 use crate::shown::put_values;
 use edition::Edition;
 use read_text_line::LineCursors;
-use read_text_parameters::{TypeRead, stated_type};
+use read_text_parameters::stated_type;
 use schema::{Context, row_of, value_type};
 use sink::put;
 use write_jcal_parameters::put_parameters;
@@ -28,20 +28,13 @@ fn put_stated(
 {
     let e = l.parameters;
     let row = row_of(mode, &s[..e], l.name);
-    let TypeRead::Type(t) = stated_type(edition, row.default, mode, s, e) else {
-        let untyped = Context {
-            component: k,
-            row,
-            value_type: value_type::TEXT,
-        };
-        return put_values(out, o, untyped, mode, s, l.value);
-    };
-    let c = Context {
+    let stated = stated_type(edition, row.default, mode, s, e).unwrap_or(value_type::TEXT);
+    let context = Context {
         component: k,
         row,
-        value_type: t,
+        value_type: stated,
     };
-    put_values(out, o, c, mode, s, l.value)
+    put_values(out, o, context, mode, s, l.value)
 }
 
 // The parameters, the type and the values.

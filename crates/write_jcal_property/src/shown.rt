@@ -13,7 +13,7 @@ ghost use Rattle.write_jcal_property.specs.Shown.{single_json, shown_json, typed
 
 use crate::geo::put_geo;
 use crate::list::{put_list, put_status};
-use read_text_property::{ValuesRead, read_values};
+use read_text_property::read_values;
 use schema::{Context, component, has_words, property, value_type};
 use sink::put;
 use write_jcal_value::{put_type_label, put_value_json};
@@ -91,16 +91,13 @@ pub fn put_values(out: &mut [u8], o: usize, c: Context, mode: usize, s: &[u8], a
         (read_or [] (read_values (component_name c.component) w (type_at c.value_type)
         (rest mode s.now at)))) }
 {
-    let a = component_place(c.component);
-    let row = c.row;
-    let u = type_place(c.value_type);
     let d = Context {
-        component: a,
-        row,
-        value_type: u,
+        component: component_place(c.component),
+        row: c.row,
+        value_type: type_place(c.value_type),
     };
-    let ValuesRead::Good(n) = read_values(d, mode, s, at) else {
-        return put_type_label(out, o, value_type::UNKNOWN);
-    };
-    put_typed(out, o, d, mode, s, at)
+    match read_values(d, mode, s, at) {
+        Some(_) => put_typed(out, o, d, mode, s, at),
+        None => put_type_label(out, o, value_type::UNKNOWN),
+    }
 }

@@ -3,9 +3,7 @@
 --     items_shown n ws    its items: one alone, or an array
 --     piece_shown n w     the member of the piece w, NAME=ITEMS, of the part n
 --     named_shown ns ws   the members of the pieces that have these names, in the order of the names
-use Rattle.std.specs.Prelude.{Bool, true, false, List, [], ◌∷◌, map, ℕ}
-use Rattle.std.proofs.Math.Option
-use Rattle.std.proofs.Math.Option.{Option, none, some}
+use Rattle.std.specs.Prelude.{Bool, true, false, List, [], ◌∷◌, map, ℕ, Option, None, Some, option_map}
 use Rattle.octets.specs.Ascii.{ascii}
 use Rattle.octets.specs.Pick.{pick}
 use Rattle.octets.specs.Append.{◌⊕◌}
@@ -29,8 +27,8 @@ is_numbers (signed d hi) = true
 is_numbers weekdaynum = false
 
 abbrev pub has_numbers : Option Part → Bool
-has_numbers none = false
-has_numbers (some r) = is_numbers r.form
+has_numbers None = false
+has_numbers (Some r) = is_numbers r.form
 
 -- characters that have no escape: as they stand, or as a string
 abbrev pub plain_json : Bool → List ℕ → List ℕ
@@ -46,9 +44,9 @@ unfoldable pub piece_shown : List ℕ → List ℕ → List ℕ
 piece_shown n w = member_of (lower n) (items_shown n (items_of n (past is_equals w)))
 
 abbrev pub with_member : Option (List ℕ) → List (List ℕ) → List (List ℕ)
-with_member none l = l
-with_member (some m) l = m ∷ l
+with_member None l = l
+with_member (Some m) l = m ∷ l
 
 unfoldable pub named_shown : List (List ℕ) → List (List ℕ) → List (List ℕ)
 named_shown [] ws = []
-named_shown (n ∷ ns) ws = with_member (Option.map (piece_shown n) (row_of piece_name n ws)) (named_shown ns ws)
+named_shown (n ∷ ns) ws = with_member (option_map (piece_shown n) (row_of piece_name n ws)) (named_shown ns ws)

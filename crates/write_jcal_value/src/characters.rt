@@ -11,7 +11,7 @@ ghost use Rattle.json_text.specs.Write.{escaped};
 
 use crate::text::put_text_characters;
 use schema::value_type;
-use texts::{is_kept, put_uri, read_unknown};
+use texts::{put_uri, read_unknown};
 use values::put_value_xml;
 use write_json::put_escaped;
 
@@ -20,8 +20,7 @@ fn put_unknown_characters(out: &mut [u8], o: usize, mode: usize, s: &[u8], at: u
     ensures { Put out.old out.new o result
         (or_nothing escaped (read_unknown (rest mode s.now at))) }
 {
-    let k = read_unknown(mode, s, at);
-    if is_kept(k) {
+    if read_unknown(mode, s, at) {
         return put_escaped(out, o, mode, s, at);
     }
     o

@@ -8,7 +8,7 @@ ghost use Rattle.jcal.specs.WriteJcal.{value_json};
 ghost use Rattle.write_jcal_value.specs.PutPeriod.{start_string, end_string, period_json};
 
 use sink::{put, put_all};
-use times::period::{PeriodRead, put_period_end, put_period_start, read_period};
+use times::period::{put_period_end, put_period_start, read_period};
 
 // The bracket that opens the array, and the start.
 fn put_start_string(out: &mut [u8], o: usize, mode: usize, s: &[u8], at: usize) -> usize
@@ -40,9 +40,8 @@ pub fn put_period_json(out: &mut [u8], o: usize, mode: usize, s: &[u8], at: usiz
     ensures { Put out.old out.new o result
         (or_nothing value_json (read_value ical PERIOD (rest mode s.now at))) }
 {
-    let r = read_period(mode, s, at);
-    match r {
-        PeriodRead::Between(n, k, x, c) => put_both(out, o, mode, s, at),
-        PeriodRead::NoPeriod => o,
+    match read_period(mode, s, at) {
+        Some(_) => put_both(out, o, mode, s, at),
+        None => o,
     }
 }

@@ -21,17 +21,16 @@ use sink::put;
 use source::unit;
 use write_json::put_separator;
 
-// For each part, whether its items are numbers (1).
-const NUMBERS: [u8; 14] = [0, 0, 1, 1, 1, 1, 1, 0, 1, 1, 1, 1, 1, 0];
+// For each part, whether its items are numbers.
+const NUMBERS: [bool; 14] = [
+    false, false, true, true, true, true, true, false, true, true, true, true, true, false,
+];
 
 // The items of the part at the place `p` are numbers.
 fn has_numbers(p: usize) -> bool
     ensures { result ≡ has_numbers (part_of (get_or part_names p [])) }
 {
-    if p < part::KNOWN {
-        return NUMBERS[p] == 1;
-    }
-    false
+    p < part::KNOWN && NUMBERS[p]
 }
 
 // An item of the part at the place `p`.
@@ -130,14 +129,14 @@ fn put_part_json(
     put_piece_json(out, a, p, mode, &s[..e], at)
 }
 
-// The parts of the rule from the cursor `at` to the end, which stand where `begins` says: the cursor at its piece and one more; 0 where there is none.
+// The parts of the rule from the cursor `at` to the end, which stand where `begins` says: the cursor at its piece, if it is there.
 pub fn put_parts_json(
     out: &mut [u8],
     o: usize,
     mode: usize,
     s: &[u8],
     at: usize,
-    begins: [usize; 14],
+    begins: [Option<usize>; 14],
 ) -> usize
     requires { (cuts mode ≡ true) × Standing mode s.now at begins }
     ensures { Put out.old out.new o result
@@ -147,14 +146,11 @@ pub fn put_parts_json(
     let mut started = false;
     let mut p = 0;
     while p < part::KNOWN {
-        let noted = begins[p];
-        if noted == 0 {
-            p += 1;
-        } else {
-            q = put_part_json(out, q, started, p, mode, s, noted - 1);
+        if let Some(c) = begins[p] {
+            q = put_part_json(out, q, started, p, mode, s, c);
             started = true;
-            p += 1;
         }
+        p += 1;
     }
     q
 }

@@ -12,7 +12,7 @@ ghost use Rattle.write_jcal_value.specs.Texts.{meant_json, bare_json, byte_json,
 use octets::unit::{BACKSLASH, END};
 use sink::{put, put_all};
 use source::unit;
-use texts::{is_kept, read_one_text, read_text};
+use texts::{read_one_text, read_text};
 use write_json::put_escaped_byte;
 
 // The byte after a backslash.
@@ -96,8 +96,7 @@ pub fn put_texts(out: &mut [u8], at: usize, sep: usize, mode: usize, s: &[u8], f
     ensures { Put out.old out.new at result
         (or_nothing strings_of (split_text sep (rest mode s.now from))) }
 {
-    let k = read_text(sep, mode, s, from);
-    if is_kept(k) {
+    if read_text(sep, mode, s, from) {
         return put_strings_quoted(out, at, mode, s, from);
     }
     at
@@ -108,8 +107,7 @@ pub fn put_text_characters(out: &mut [u8], at: usize, mode: usize, s: &[u8], fro
     ensures { Put out.old out.new at result
         (or_nothing escaped (read_text (rest mode s.now from))) }
 {
-    let k = read_one_text(mode, s, from);
-    if is_kept(k) {
+    if read_one_text(mode, s, from) {
         return put_strings(out, at, mode, s, from);
     }
     at

@@ -21,7 +21,7 @@ use crate::rule::put_parts_json;
 use recur::rule::read_parts;
 use schema::value_type;
 use sink::put;
-use values::{ValueRead, read_value};
+use values::read_value;
 
 // The rule from the cursor `at` to the end, whose parts stand where `begins` says.
 fn put_rule_json(
@@ -30,7 +30,7 @@ fn put_rule_json(
     mode: usize,
     s: &[u8],
     at: usize,
-    begins: [usize; 14],
+    begins: [Option<usize>; 14],
 ) -> usize
     requires { (cuts mode ≡ true) × Standing mode s.now at begins }
     ensures { Put out.old out.new o result
@@ -46,12 +46,10 @@ fn put_recur_json(out: &mut [u8], o: usize, mode: usize, s: &[u8], at: usize) ->
     ensures { Put out.old out.new o result
         (or_nothing value_json (read_value ical RECUR (rest mode s.now at))) }
 {
-    let r = read_parts(mode, s, at);
-    if r.good {
-        let begins = r.begins;
-        return put_rule_json(out, o, mode, s, at, begins);
+    match read_parts(mode, s, at) {
+        Some(begins) => put_rule_json(out, o, mode, s, at, begins),
+        None => o,
     }
-    o
 }
 
 // A type whose values stand with no quotation marks: BOOLEAN, FLOAT, INTEGER.
@@ -87,10 +85,9 @@ fn put_plain_json(out: &mut [u8], o: usize, t: usize, mode: usize, s: &[u8], at:
     ensures { Put out.old out.new o result
         (or_nothing value_json (read_value ical (type_at t) (rest mode s.now at))) }
 {
-    let r = read_value(false, t, mode, s, at);
-    match r {
-        ValueRead::Good(k) => put_scalar(out, o, t, mode, s, at),
-        ValueRead::Bad => o,
+    match read_value(false, t, mode, s, at) {
+        Some(_) => put_scalar(out, o, t, mode, s, at),
+        None => o,
     }
 }
 

@@ -35,9 +35,8 @@ pub fn inside_of(s: &[u8], from: usize, w: &[u8]) -> usize
     let mut at = from;
     loop {
         let n = node_head(s, at);
-        let kind = n.kind;
-        match kind {
-            NodeKind::None => {
+        match n.kind {
+            NodeKind::Absent => {
                 return s.len();
             }
             NodeKind::Element => {
@@ -114,9 +113,8 @@ pub fn parameters_inside(p: usize, s: &[u8], from: usize) -> usize
     let mut at = from;
     loop {
         let n = node_head(s, at);
-        let kind = n.kind;
-        match kind {
-            NodeKind::None => {
+        match n.kind {
+            NodeKind::Absent => {
                 return s.len();
             }
             NodeKind::Element => {

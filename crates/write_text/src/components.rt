@@ -107,9 +107,8 @@ fn put_components(
     let mut at = from;
     loop {
         let n = next_node(s, at);
-        let kind = n.kind;
-        match kind {
-            NodeKind::None => {
+        match n.kind {
+            NodeKind::Absent => {
                 return p;
             }
             NodeKind::Element => {

@@ -56,9 +56,8 @@ pub fn put_properties(
     let mut at = from;
     loop {
         let n = next_node(s, at);
-        let kind = n.kind;
-        match kind {
-            NodeKind::None => {
+        match n.kind {
+            NodeKind::Absent => {
                 return p;
             }
             NodeKind::Element => {

@@ -14,10 +14,11 @@ ghost use Rattle.write_text_jcal_values.specs.Elements.{list_at, without};
 ghost use Rattle.write_text_jcal_values.specs.Property.{ReadAs, stated_as};
 ghost use Rattle.write_text_jcal.specs.Content.{parameters_text, line_text};
 
-use crate::context::{are_read, context_at};
+use crate::context::context_at;
 use edition::Edition;
 use names::put_upper;
 use read_jcal_parameters::put_parameters;
+use read_jcal_value::values_read;
 use schema::Context;
 use sink::put_all;
 use write_text_jcal_values::{object_at, put_values, skip, string_at, type_of_values};
@@ -88,7 +89,7 @@ fn put_line_end(
         ∷ write_values (stated_as context c w (element_list (without 3 (elements_at s.now inside)))))) }
 {
     let from = skip(s, inside, 3);
-    let read = are_read(context, s, from);
+    let read = values_read(context, s, from);
     let a = put_all_parameters(out, o, edition, context, read, s, inside, from);
     put_all_values(out, a, context, read, s, from)
 }

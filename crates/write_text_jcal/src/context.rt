@@ -1,19 +1,16 @@
-// What a property's array says of its values: in which component they stand, of which property and type; whether they can be read. See specs/Context.antt.
+// What a property's array says of its values: in which component they stand, of which property and type. See specs/Context.antt.
 ghost use Rattle.std.specs.Prelude.{◌≡◌, List, ℕ, ◌≤◌, length};
-ghost use Rattle.octets.specs.Reading.{is_read};
 ghost use Rattle.names.specs.Table.{place_of};
 ghost use Rattle.schema.specs.Components.{component_names};
 ghost use Rattle.schema.specs.Properties.{property_names};
 ghost use Rattle.schema.specs.Numbers.{type_at};
 ghost use Rattle.schema.specs.Coded.{row_at};
 ghost use Rattle.jcal.specs.Property.{value_type_of};
-ghost use Rattle.jcal.specs.Values.{read_values};
 ghost use Rattle.write_text_jcal_values.specs.Elements.{list_at};
 ghost use Rattle.write_text_jcal.specs.Context.{ContextAt};
 
 use markup::table;
 use names::find_word;
-use read_jcal_value::{ValuesRead, values_read};
 use schema::{Context, row_of, value_type};
 use write_text_jcal_values::{skip, string_at};
 
@@ -43,20 +40,5 @@ pub fn context_at(k: usize, s: &[u8], inside: usize) -> Context
         component: k,
         row,
         value_type: t,
-    }
-}
-
-// The values from `from` on can be read.
-pub fn are_read(context: Context, s: &[u8], from: usize) -> bool
-    ensures { (c w : List ℕ) →
-        context.component ≡ place_of c component_names →
-        context.row ≡ row_at (place_of w property_names) →
-        context.value_type ≤ 14 →
-        result ≡ is_read (read_values c w (type_at context.value_type) (list_at s.now from)) }
-{
-    let v = values_read(context, s, from);
-    match v {
-        ValuesRead::Read => true,
-        ValuesRead::Bad => false,
     }
 }

@@ -3,8 +3,7 @@
 --     written_at k p t  the number of the type that the values of a property have, in the component of the number k, whose type is stated as that of the number t
 --     stated_as         the values that a property states in its context, c and w being the names of the component and of the property
 --     ReadAs            `read` says whether they can be read
-use Rattle.std.specs.Prelude.{◌≡◌, Bool, List, [], ℕ, ◌≤◌, eqb}
-use Rattle.std.proofs.Math.Option.{Option}
+use Rattle.std.specs.Prelude.{◌≡◌, Bool, List, [], ℕ, ◌≤◌, eqb, Option}
 use Rattle.octets.specs.Pick.{pick}
 use Rattle.octets.specs.Reading.{and_then, is_read, read_or, read_each}
 use Rattle.calendar.specs.Calendar.{Value}

@@ -2,8 +2,7 @@
 --     item_of p v      the item of the part of the number p that a value states
 --     upper_name       the name of a member in capitals
 --     PartAt           the first member of a part's name: the contract of `find_part`
-use Rattle.std.specs.Prelude.{◌≡◌, Bool, true, false, List, [], ℕ, ◌<◌, length, get_or}
-use Rattle.std.proofs.Math.Option.{Option, none, some}
+use Rattle.std.specs.Prelude.{◌≡◌, List, [], ℕ, ◌<◌, length, get_or, Option, IfSome, option_map}
 use Rattle.octets.specs.Class.{upper}
 use Rattle.octets.specs.Words.{row_of}
 use Rattle.octets.specs.Reading.{and_then}
@@ -29,10 +28,6 @@ upper_name m = upper m.name
 abbrev pub member_of : List ℕ → ℕ → ℕ → Member
 member_of s p n = record { name = string_at s p; value = first_of (elements_at s n) }
 
-abbrev pub member_found : Bool → List ℕ → ℕ → ℕ → Option Member
-member_found false s p n = none
-member_found true s p n = some (member_of s p n)
-
-pub record PartAt (p : ℕ) (s : List ℕ) (from : ℕ) (r : MemberHead) : Type 0 where
-  pub is : row_of upper_name (part_name p) (member_list_at s from) ≡ member_found r.there s r.name r.next
-  pub place : r.there ≡ true → r.name < length s
+pub record PartAt (p : ℕ) (s : List ℕ) (from : ℕ) (r : Option MemberHead) : Type 0 where
+  pub is : row_of upper_name (part_name p) (member_list_at s from) ≡ option_map (λ m. member_of s m.name m.next) r
+  pub place : IfSome r (λ m. m.name < length s)

@@ -1,6 +1,5 @@
 // The items of a part of a RECUR: an item alone, or an array of them. See specs/Rules.antt.
-ghost use Rattle.std.specs.Prelude.{◌≡◌, List, [], ◌∷◌, map, ◌≤◌, length};
-ghost use Rattle.std.proofs.Math.Option.{some};
+ghost use Rattle.std.specs.Prelude.{◌≡◌, List, [], ◌∷◌, map, ◌≤◌, length, Some};
 ghost use Rattle.octets.specs.Pick.{pick};
 ghost use Rattle.octets.specs.Append.{◌⊕◌};
 ghost use Rattle.octets.specs.Words.{joined_by};
@@ -25,7 +24,7 @@ use write_text_pieces::put_between;
 fn put_item_of(out: &mut [u8], o: usize, p: usize, s: &[u8], h: Head) -> usize
     requires { (length s.now ≤ 65535) × Strung s.now h }
     ensures { (i : RuleItem) →
-        item_of p (value_of_head s.now h) ≡ some i →
+        item_of p (value_of_head s.now h) ≡ Some i →
         Put out.old out.new o result (write_item ical i) }
 {
     let kind = h.kind;
@@ -40,7 +39,7 @@ fn put_item_of(out: &mut [u8], o: usize, p: usize, s: &[u8], h: Head) -> usize
 fn put_one_item(out: &mut [u8], o: usize, started: bool, p: usize, s: &[u8], h: Head) -> usize
     requires { (length s.now ≤ 65535) × Strung s.now h }
     ensures { (i : RuleItem) →
-        item_of p (value_of_head s.now h) ≡ some i →
+        item_of p (value_of_head s.now h) ≡ Some i →
         Put out.old out.new o result (pick started (44 ∷ []) [] ⊕ write_item ical i) }
 {
     let a = put_between(out, o, started, b',');
@@ -51,7 +50,7 @@ fn put_one_item(out: &mut [u8], o: usize, started: bool, p: usize, s: &[u8], h: 
 fn put_listed(out: &mut [u8], o: usize, p: usize, s: &[u8], from: usize) -> usize
     requires { length s.now ≤ 65535 }
     ensures { (is : List RuleItem) →
-        read_each (item_of p) (list_at s.now from) ≡ some is →
+        read_each (item_of p) (list_at s.now from) ≡ Some is →
         Put out.old out.new o result (joined_by 44 (map (write_item ical) is)) }
 {
     let mut q = o;
@@ -75,7 +74,7 @@ fn put_listed(out: &mut [u8], o: usize, p: usize, s: &[u8], from: usize) -> usiz
 pub fn put_items(out: &mut [u8], o: usize, p: usize, s: &[u8], at: usize) -> usize
     requires { length s.now ≤ 65535 }
     ensures { (is : List RuleItem) →
-        read_each (item_of p) (or_alone (first_of (elements_at s.now at))) ≡ some is →
+        read_each (item_of p) (or_alone (first_of (elements_at s.now at))) ≡ Some is →
         Put out.old out.new o result (joined_by 44 (map (write_item ical) is)) }
 {
     let h = element_at(s, at);

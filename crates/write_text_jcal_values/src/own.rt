@@ -1,6 +1,5 @@
 // GEO and REQUEST-STATUS, which have arrays of their own. See crate jcal, specs/Values.antt.
-ghost use Rattle.std.specs.Prelude.{◌≡◌, List, [], ◌∷◌, map, ℕ, ◌≤◌, length};
-ghost use Rattle.std.proofs.Math.Option.{some};
+ghost use Rattle.std.specs.Prelude.{◌≡◌, List, [], ◌∷◌, map, ℕ, ◌≤◌, length, Some};
 ghost use Rattle.octets.specs.Pick.{pick};
 ghost use Rattle.octets.specs.Append.{◌⊕◌};
 ghost use Rattle.octets.specs.Words.{joined_by};
@@ -29,7 +28,7 @@ use write_text_pieces::put_between;
 // The FLOAT that stands first from `at` on, where it is one.
 fn put_coordinate(out: &mut [u8], o: usize, s: &[u8], at: usize) -> usize
     ensures { (d : Decimal) →
-        and_then (as_number (first_of (elements_at s.now at))) read_float ≡ some d →
+        and_then (as_number (first_of (elements_at s.now at))) read_float ≡ Some d →
         Put out.old out.new o result (write_float d) }
 {
     let h = element_at(s, at);
@@ -39,7 +38,7 @@ fn put_coordinate(out: &mut [u8], o: usize, s: &[u8], at: usize) -> usize
 // The value of GEO whose array's content begins at `inside`.
 pub fn put_geo(out: &mut [u8], o: usize, s: &[u8], inside: usize) -> usize
     ensures { (v : Value) →
-        read_geo (list_at s.now inside) ≡ some v →
+        read_geo (list_at s.now inside) ≡ Some v →
         Put out.old out.new o result (write_value v) }
 {
     let second = skip(s, inside, 1);
@@ -52,7 +51,7 @@ pub fn put_geo(out: &mut [u8], o: usize, s: &[u8], inside: usize) -> usize
 fn put_one_text(out: &mut [u8], o: usize, started: bool, s: &[u8], h: Head) -> usize
     requires { (length s.now ≤ 65535) × Spans s.now h }
     ensures { (l : List ℕ) →
-        as_string (value_of_head s.now h) ≡ some l →
+        as_string (value_of_head s.now h) ≡ Some l →
         Put out.old out.new o result (pick started (59 ∷ []) [] ⊕ write_text l) }
 {
     let a = put_between(out, o, started, b';');
@@ -63,7 +62,7 @@ fn put_one_text(out: &mut [u8], o: usize, started: bool, s: &[u8], h: Head) -> u
 fn put_texts(out: &mut [u8], o: usize, s: &[u8], from: usize) -> usize
     requires { length s.now ≤ 65535 }
     ensures { (ls : List (List ℕ)) →
-        read_each as_string (list_at s.now from) ≡ some ls →
+        read_each as_string (list_at s.now from) ≡ Some ls →
         Put out.old out.new o result (joined_by 59 (map write_text ls)) }
 {
     let mut q = o;
@@ -87,7 +86,7 @@ fn put_texts(out: &mut [u8], o: usize, s: &[u8], from: usize) -> usize
 pub fn put_status(out: &mut [u8], o: usize, s: &[u8], inside: usize) -> usize
     requires { length s.now ≤ 65535 }
     ensures { (v : Value) →
-        and_then (read_each as_string (list_at s.now inside)) read_status ≡ some v →
+        and_then (read_each as_string (list_at s.now inside)) read_status ≡ Some v →
         Put out.old out.new o result (write_value v) }
 {
     put_texts(out, o, s, inside)

@@ -1,6 +1,5 @@
 // PERIOD, an array of two strings. See crate jcal, specs/Values.antt, and specs/Periods.antt.
-ghost use Rattle.std.specs.Prelude.{◌≡◌, ◌≤◌, length};
-ghost use Rattle.std.proofs.Math.Option.{some};
+ghost use Rattle.std.specs.Prelude.{◌≡◌, ◌≤◌, length, Some};
 ghost use Rattle.octets.specs.Reading.{or_nothing};
 ghost use Rattle.calendar.specs.Calendar.{ical, xcal, Value};
 ghost use Rattle.sink.specs.Sink.{Put};
@@ -15,7 +14,7 @@ ghost use Rattle.write_text_jcal_values.specs.Periods.{end_text};
 use crate::elements::{skip, string_at};
 use sink::put_all;
 use times::date_time::put_date_time;
-use times::duration::{DurationRead, put_duration, read_duration};
+use times::duration::{put_duration, read_duration};
 
 // The start: the date-time in the first element from `inside` on.
 fn put_start(out: &mut [u8], o: usize, s: &[u8], inside: usize) -> usize
@@ -31,10 +30,9 @@ fn put_start(out: &mut [u8], o: usize, s: &[u8], inside: usize) -> usize
 fn put_end(out: &mut [u8], o: usize, s: &[u8], c: usize) -> usize
     ensures { Put out.old out.new o result (end_text (rest 3 s.now c)) }
 {
-    let r = read_duration(true, 3, s, c);
-    match r {
-        DurationRead::Span(neg, x) => put_duration(out, o, true, false, 3, s, c),
-        DurationRead::NoDuration => put_date_time(out, o, true, false, 3, s, c),
+    match read_duration(true, 3, s, c) {
+        Some(_) => put_duration(out, o, true, false, 3, s, c),
+        None => put_date_time(out, o, true, false, 3, s, c),
     }
 }
 
@@ -53,7 +51,7 @@ fn put_finish(out: &mut [u8], o: usize, s: &[u8], inside: usize) -> usize
 pub fn put_period(out: &mut [u8], o: usize, s: &[u8], inside: usize) -> usize
     requires { length s.now ≤ 65535 }
     ensures { (v : Value) →
-        read_period (list_at s.now inside) ≡ some v →
+        read_period (list_at s.now inside) ≡ Some v →
         Put out.old out.new o result (write_value v) }
 {
     let a = put_start(out, o, s, inside);

@@ -1,6 +1,5 @@
 // The values of a property: all that stand behind its type. See specs/Property.antt.
-ghost use Rattle.std.specs.Prelude.{◌≡◌, List, [], ◌∷◌, map, ℕ, ◌≤◌, length};
-ghost use Rattle.std.proofs.Math.Option.{some};
+ghost use Rattle.std.specs.Prelude.{◌≡◌, List, [], ◌∷◌, map, ℕ, ◌≤◌, length, Some};
 ghost use Rattle.octets.specs.Pick.{pick};
 ghost use Rattle.octets.specs.Append.{◌⊕◌};
 ghost use Rattle.octets.specs.Words.{joined_by};
@@ -25,7 +24,7 @@ use write_text_pieces::put_between;
 fn put_value(out: &mut [u8], o: usize, p: usize, t: usize, s: &[u8], h: Head) -> usize
     requires { (length s.now ≤ 65535) × Spans s.now h × (t ≤ 14) }
     ensures { (v : Value) →
-        one_at p t (value_of_head s.now h) ≡ some v →
+        one_at p t (value_of_head s.now h) ≡ Some v →
         Put out.old out.new o result (write_value v) }
 {
     if p == property::GEO {
@@ -49,7 +48,7 @@ fn put_one_value(
 ) -> usize
     requires { (length s.now ≤ 65535) × Spans s.now h × (t ≤ 14) }
     ensures { (v : Value) →
-        one_at p t (value_of_head s.now h) ≡ some v →
+        one_at p t (value_of_head s.now h) ≡ Some v →
         Put out.old out.new o result (pick started (44 ∷ []) [] ⊕ write_value v) }
 {
     let a = put_between(out, o, started, b',');
@@ -60,7 +59,7 @@ fn put_one_value(
 fn put_each(out: &mut [u8], o: usize, p: usize, t: usize, s: &[u8], from: usize) -> usize
     requires { (length s.now ≤ 65535) × (t ≤ 14) }
     ensures { (vs : List Value) →
-        read_each (one_at p t) (list_at s.now from) ≡ some vs →
+        read_each (one_at p t) (list_at s.now from) ≡ Some vs →
         Put out.old out.new o result (joined_by 44 (map write_value vs)) }
 {
     let mut q = o;

@@ -1,6 +1,5 @@
 // RECUR, an object: for each part in the schema's order the member of its name. See specs/Rules.antt.
-ghost use Rattle.std.specs.Prelude.{◌≡◌, List, [], ◌∷◌, map, ◌≤◌, ◌<◌, length, get_or};
-ghost use Rattle.std.proofs.Math.Option.{some};
+ghost use Rattle.std.specs.Prelude.{◌≡◌, List, [], ◌∷◌, map, ◌≤◌, ◌<◌, length, get_or, Some};
 ghost use Rattle.octets.specs.Ascii.{ascii};
 ghost use Rattle.octets.specs.Pick.{pick};
 ghost use Rattle.octets.specs.Append.{◌⊕◌};
@@ -42,23 +41,18 @@ fn is_part(p: usize, s: &[u8], place: usize) -> bool
 }
 
 // The first member, from `from` on, of the part of the number `p`.
-fn find_part(p: usize, s: &[u8], from: usize) -> MemberHead
+fn find_part(p: usize, s: &[u8], from: usize) -> Option<MemberHead>
     requires { (p < 14) × (length s.now ≤ 65535) }
     ensures { PartAt p s.now from result }
 {
     let mut c = from;
-    loop {
-        let m = member_at(s, c);
-        if m.there {
-            let here = is_part(p, s, m.name);
-            if here {
-                return m;
-            }
-            c = m.next;
-        } else {
-            return m;
+    while let Some(m) = member_at(s, c) {
+        if is_part(p, s, m.name) {
+            return Some(m);
         }
+        c = m.next;
     }
+    None
 }
 
 // A part, behind a semicolon where it is not the first: its name stands at `name`, its value from `value` on.
@@ -73,7 +67,7 @@ fn put_part(
 ) -> usize
     requires { (length s.now ≤ 65535) × (name < length s.now) }
     ensures { (is : List RuleItem) →
-        read_each (item_of p) (or_alone (first_of (elements_at s.now value))) ≡ some is →
+        read_each (item_of p) (or_alone (first_of (elements_at s.now value))) ≡ Some is →
         Put out.old out.new o result
         (pick started (59 ∷ []) [] ⊕ upper (string_at s.now name) ⊕ ascii "=" ⊕ joined_by 44
         (map (write_item ical) is)) }
@@ -88,21 +82,18 @@ fn put_part(
 fn put_parts(out: &mut [u8], o: usize, s: &[u8], inside: usize) -> usize
     requires { length s.now ≤ 65535 }
     ensures { (ps : List RulePart) →
-        read_each read_part (member_list_at s.now inside) ≡ some ps →
+        read_each read_part (member_list_at s.now inside) ≡ Some ps →
         Put out.old out.new o result (joined_by 59 (map write_part (in_order part_names ps))) }
 {
     let mut q = o;
     let mut started = false;
     let mut p = 0;
     while p < part::KNOWN {
-        let m = find_part(p, s, inside);
-        if m.there {
-            q = put_part(out, q, started, p, s, m.name, m.next);
+        if let Some(member) = find_part(p, s, inside) {
+            q = put_part(out, q, started, p, s, member.name, member.next);
             started = true;
-            p += 1;
-        } else {
-            p += 1;
         }
+        p += 1;
     }
     q
 }
@@ -111,7 +102,7 @@ fn put_parts(out: &mut [u8], o: usize, s: &[u8], inside: usize) -> usize
 pub fn put_rule(out: &mut [u8], o: usize, s: &[u8], inside: usize) -> usize
     requires { length s.now ≤ 65535 }
     ensures { (ps : List RulePart) →
-        and_then (read_each read_part (member_list_at s.now inside)) ruled ≡ some ps →
+        and_then (read_each read_part (member_list_at s.now inside)) ruled ≡ Some ps →
         Put out.old out.new o result (write_rule ps) }
 {
     put_parts(out, o, s, inside)

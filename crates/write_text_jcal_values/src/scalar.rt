@@ -1,6 +1,5 @@
 // Values of one scalar: a string, a number, a literal. See specs/laws/Scalars.antt.
-ghost use Rattle.std.specs.Prelude.{◌≡◌, ◌≤◌, length};
-ghost use Rattle.std.proofs.Math.Option.{some};
+ghost use Rattle.std.specs.Prelude.{◌≡◌, ◌≤◌, length, Some};
 ghost use Rattle.calendar.specs.Calendar.{Value, Whole};
 ghost use Rattle.sink.specs.Sink.{Put};
 ghost use Rattle.schema.specs.Numbers.{type_at};
@@ -12,7 +11,7 @@ ghost use Rattle.read_json.specs.TreeAt.{word_at};
 ghost use Rattle.read_json.specs.Heads.{value_of_head};
 ghost use Rattle.write_text_jcal_values.specs.laws.Elements.{Spans};
 
-use numbers::integer::{IntegerRead, put_whole};
+use numbers::integer::put_whole;
 use read_jcal_value::read_number;
 use read_json::Head;
 use schema::value_type;
@@ -23,13 +22,13 @@ use write_text_pieces::put_leaf;
 fn put_number(out: &mut [u8], o: usize, s: &[u8], place: usize, next: usize) -> usize
     requires { (place ≤ next) × (next ≤ length s.now) }
     ensures { (w : Whole) →
-        read_number (word_at s.now place next) ≡ some w →
+        read_number (word_at s.now place next) ≡ Some w →
         Put out.old out.new o result (write_whole w) }
 {
-    let IntegerRead::Value(neg, m) = read_number(&s[..next], place) else {
+    let Some(number) = read_number(&s[..next], place) else {
         return o;
     };
-    put_whole(out, o, neg, m)
+    put_whole(out, o, number.negative, number.magnitude)
 }
 
 // A value of the type of the number `t`, which is neither PERIOD nor RECUR.
@@ -38,7 +37,7 @@ pub fn put_scalar(out: &mut [u8], o: usize, t: usize, s: &[u8], h: Head) -> usiz
     ensures { (t ≡ 8 → ⊥) →
         (t ≡ 9 → ⊥) →
         (v : Value) →
-        read_typed (type_at t) (value_of_head s.now h) ≡ some v →
+        read_typed (type_at t) (value_of_head s.now h) ≡ Some v →
         Put out.old out.new o result (write_value v) }
 {
     if t == value_type::BINARY {

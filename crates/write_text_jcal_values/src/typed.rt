@@ -1,6 +1,5 @@
 // A value of any type. See crate jcal, specs/Values.antt.
-ghost use Rattle.std.specs.Prelude.{◌≡◌, ◌≤◌, length};
-ghost use Rattle.std.proofs.Math.Option.{some};
+ghost use Rattle.std.specs.Prelude.{◌≡◌, ◌≤◌, length, Some};
 ghost use Rattle.calendar.specs.Calendar.{Value};
 ghost use Rattle.sink.specs.Sink.{Put};
 ghost use Rattle.schema.specs.Numbers.{type_at};
@@ -19,7 +18,7 @@ use schema::value_type;
 pub fn put_typed(out: &mut [u8], o: usize, t: usize, s: &[u8], h: Head) -> usize
     requires { (length s.now ≤ 65535) × Spans s.now h × (t ≤ 14) }
     ensures { (v : Value) →
-        read_typed (type_at t) (value_of_head s.now h) ≡ some v →
+        read_typed (type_at t) (value_of_head s.now h) ≡ Some v →
         Put out.old out.new o result (write_value v) }
 {
     if t == value_type::PERIOD {

@@ -1,7 +1,6 @@
 -- A value that is character data in XML, written as iCalendar text.
 --     value_text     the text of what was read; nothing where nothing was read
-use Rattle.std.specs.Prelude.{List, ℕ}
-use Rattle.std.proofs.Math.Option.{Option}
+use Rattle.std.specs.Prelude.{List, ℕ, Option}
 use Rattle.octets.specs.Reading.{or_nothing}
 use Rattle.calendar.specs.Calendar.{Value}
 use Rattle.values.specs.WriteValue.{write_value}

@@ -7,7 +7,7 @@ ghost use Rattle.values.specs.ReadValue.{read_value};
 ghost use Rattle.values.specs.ValueAt.{from_time, from_integer, from_date, from_binary};
 ghost use Rattle.write_text_pieces.specs.Leaves.{value_text};
 
-use numbers::boolean::{BooleanRead, put_boolean, read_boolean};
+use numbers::boolean::{put_boolean, read_boolean};
 use numbers::float::put_float;
 use numbers::integer::put_integer;
 use schema::value_type;
@@ -22,10 +22,9 @@ fn put_boolean_text(out: &mut [u8], o: usize, mode: usize, s: &[u8], at: usize) 
     ensures { Put out.old out.new o result
         (value_text (read_value xcal BOOLEAN (rest mode s.now at))) }
 {
-    let r = read_boolean(true, mode, s, at);
-    match r {
-        BooleanRead::Truth(b) => put_boolean(out, o, false, b),
-        BooleanRead::Bad => o,
+    match read_boolean(true, mode, s, at) {
+        Some(b) => put_boolean(out, o, false, b),
+        None => o,
     }
 }
 

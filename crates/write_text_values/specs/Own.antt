@@ -1,8 +1,7 @@
 -- GEO and REQUEST-STATUS from their elements, written as text (RFC 6321, section 3.4.1).
 --     geo_of, status_of  the value
 --     data_text          REQUEST-STATUS's data behind its semicolon
-use Rattle.std.specs.Prelude.{List, [], ℕ}
-use Rattle.std.proofs.Math.Option.{Option, none, some}
+use Rattle.std.specs.Prelude.{List, [], ℕ, Option, None, Some}
 use Rattle.octets.specs.Ascii.{ascii}
 use Rattle.octets.specs.Append.{◌⊕◌}
 use Rattle.calendar.specs.Calendar.{Value, geo, request_status}
@@ -17,5 +16,5 @@ abbrev pub status_of : Nodes → Value
 status_of kids = request_status (text_of (ascii "code") kids) (text_of (ascii "description") kids) (child_named (ascii "data") kids)
 
 abbrev pub data_text : Option (List ℕ) → List ℕ
-data_text none = []
-data_text (some s) = ascii ";" ⊕ write_text s
+data_text None = []
+data_text (Some s) = ascii ";" ⊕ write_text s

@@ -4,39 +4,22 @@ ghost use Rattle.write_text_values.specs.Children.{ChildAt, TextAt};
 use names::is_word;
 use read_xml_nodes::{NodeKind, node_end, node_head};
 
-// Where the content of a child begins; or there is none.
-#[derive(Clone, Copy)]
-pub enum Child {
-    Found(usize),
-    Missing,
-}
-
-// The first child that has this name, in the content that begins at `inside`.
-pub fn find_child(s: &[u8], inside: usize, name: &[u8]) -> Child
+// Where the content of the first child of this name begins, in the content that begins at `inside`.
+pub fn find_child(s: &[u8], inside: usize, name: &[u8]) -> Option<usize>
     ensures { ChildAt name.now s.now inside result }
 {
     let mut c = inside;
-    loop {
+    'children: loop {
         let n = node_head(s, c);
-        let kind = n.kind;
-        match kind {
-            NodeKind::None => {
-                return Child::Missing;
-            }
+        match n.kind {
+            NodeKind::Absent => return None,
             NodeKind::Element => {
-                let here = is_word(0, &s[..n.name_end], n.name, name);
-                if here {
-                    return Child::Found(n.inside);
+                if is_word(0, &s[..n.name_end], n.name, name) {
+                    return Some(n.inside);
                 }
-                let e = node_end(s, c, n.opens, n.next);
-                c = e.next;
+                c = node_end(s, c, n.opens, n.next).next;
             }
-            NodeKind::Literal => {
-                c = n.next;
-            }
-            NodeKind::Referred => {
-                c = n.next;
-            }
+            NodeKind::Literal | NodeKind::Referred => c = n.next,
         }
     }
 }
@@ -45,9 +28,5 @@ pub fn find_child(s: &[u8], inside: usize, name: &[u8]) -> Child
 pub fn child_inside(s: &[u8], inside: usize, name: &[u8]) -> usize
     ensures { TextAt name.now s.now inside result }
 {
-    let f = find_child(s, inside, name);
-    match f {
-        Child::Found(i) => i,
-        Child::Missing => s.len(),
-    }
+    find_child(s, inside, name).unwrap_or(s.len())
 }

@@ -11,9 +11,9 @@ ghost use Rattle.xcal.specs.ValueNodes.{child_named, text_of, float_of};
 ghost use Rattle.xml.specs.NodesAt.{nodes_at};
 ghost use Rattle.write_text_values.specs.Own.{data_text, geo_of, status_of};
 
-use crate::child::{Child, child_inside, find_child};
+use crate::child::{child_inside, find_child};
 use markup::element;
-use numbers::float::{FloatRead, put_float, read_float};
+use numbers::float::{put_float, read_float};
 use sink::put_all;
 use texts::put_text_escaped;
 
@@ -24,10 +24,9 @@ fn put_coordinate(out: &mut [u8], o: usize, s: &[u8], inside: usize, name: &[u8]
         (write_float (float_of name.now (nodes_at s.now inside))) }
 {
     let i = child_inside(s, inside, name);
-    let f = read_float(1, s, 2 * i);
-    match f {
-        FloatRead::Good(neg, c, d) => put_float(out, o, 1, s, 2 * i),
-        FloatRead::Bad => put_all(out, o, b"0"),
+    match read_float(1, s, 2 * i) {
+        Some(_) => put_float(out, o, 1, s, 2 * i),
+        None => put_all(out, o, b"0"),
     }
 }
 
@@ -66,10 +65,9 @@ fn put_data(out: &mut [u8], o: usize, s: &[u8], inside: usize) -> usize
     ensures { Put out.old out.new o result
         (data_text (child_named (ascii "data") (nodes_at s.now inside))) }
 {
-    let f = find_child(s, inside, &element::DATA);
-    match f {
-        Child::Found(i) => put_data_text(out, o, s, i),
-        Child::Missing => o,
+    match find_child(s, inside, &element::DATA) {
+        Some(i) => put_data_text(out, o, s, i),
+        None => o,
     }
 }
 

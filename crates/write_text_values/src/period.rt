@@ -7,7 +7,7 @@ ghost use Rattle.xcal.specs.ValueNodes.{child_named, moment_of, period_of};
 ghost use Rattle.xml.specs.NodesAt.{nodes_at};
 ghost use Rattle.write_text_values.specs.Periods.{end_of};
 
-use crate::child::{Child, child_inside, find_child};
+use crate::child::{child_inside, find_child};
 use markup::element;
 use sink::put_all;
 use times::date_time::put_date_time;
@@ -29,10 +29,9 @@ fn put_end(out: &mut [u8], o: usize, s: &[u8], inside: usize) -> usize
     ensures { Put out.old out.new o result
         (end_of (child_named (ascii "duration") (nodes_at s.now inside)) (nodes_at s.now inside)) }
 {
-    let f = find_child(s, inside, &element::DURATION);
-    match f {
-        Child::Found(i) => put_duration(out, o, true, false, 1, s, 2 * i),
-        Child::Missing => put_moment(out, o, s, inside, &element::END),
+    match find_child(s, inside, &element::DURATION) {
+        Some(i) => put_duration(out, o, true, false, 1, s, 2 * i),
+        None => put_moment(out, o, s, inside, &element::END),
     }
 }
 

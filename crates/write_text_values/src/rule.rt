@@ -26,11 +26,13 @@ use recur::written::put_item;
 use sink::put_all;
 use write_text_pieces::put_between;
 
-// An item's element: where its content begins, the place of the next node, and its name; or there is none.
-#[derive(Clone, Copy)]
-pub enum ItemFound {
-    Item(usize, usize, usize, usize),
-    Last,
+// An item's element: its name, where its content begins, and the place of the next node.
+#[derive(Clone, Copy, Debug, PartialEq, Eq)]
+pub struct Item {
+    pub name: usize,
+    pub name_end: usize,
+    pub inside: usize,
+    pub next: usize,
 }
 
 // The number of the part that an element's name names, part::KNOWN where it names none.
@@ -42,31 +44,27 @@ fn part_number(s: &[u8], name: usize, name_end: usize) -> usize
 }
 
 // The first item, from `at` on, of the part of the number `p`.
-fn find_item(p: usize, s: &[u8], at: usize) -> ItemFound
+fn find_item(p: usize, s: &[u8], at: usize) -> Option<Item>
     requires { p < 14 }
     ensures { ItemAt p s.now at result }
 {
     let mut c = at;
-    loop {
+    'items: loop {
         let n = next_node(s, c);
-        let kind = n.kind;
-        match kind {
-            NodeKind::None => {
-                return ItemFound::Last;
-            }
+        match n.kind {
+            NodeKind::Absent => return None,
             NodeKind::Element => {
-                let q = part_number(s, n.name, n.name_end);
-                if q == p {
-                    return ItemFound::Item(n.inside, n.next, n.name, n.name_end);
+                if part_number(s, n.name, n.name_end) == p {
+                    return Some(Item {
+                        name: n.name,
+                        name_end: n.name_end,
+                        inside: n.inside,
+                        next: n.next,
+                    });
                 }
                 c = n.next;
             }
-            NodeKind::Literal => {
-                c = n.next;
-            }
-            NodeKind::Referred => {
-                c = n.next;
-            }
+            NodeKind::Literal | NodeKind::Referred => c = n.next,
         }
     }
 }
@@ -89,19 +87,12 @@ fn put_items(out: &mut [u8], o: usize, p: usize, s: &[u8], inside: usize) -> usi
     let mut q = o;
     let mut c = inside;
     let mut started = false;
-    loop {
-        let f = find_item(p, s, c);
-        match f {
-            ItemFound::Item(i, next, name, name_end) => {
-                q = put_one_item(out, q, started, p, s, i);
-                started = true;
-                c = next;
-            }
-            ItemFound::Last => {
-                return q;
-            }
-        }
+    while let Some(item) = find_item(p, s, c) {
+        q = put_one_item(out, q, started, p, s, item.inside);
+        started = true;
+        c = item.next;
     }
+    q
 }
 
 // A part, behind a semicolon where it is not the first. Its name is that of an element of its, in capitals.
@@ -136,17 +127,11 @@ pub fn put_rule(out: &mut [u8], o: usize, s: &[u8], inside: usize) -> usize
     let mut started = false;
     let mut p = 0;
     while p < part::KNOWN {
-        let f = find_item(p, s, inside);
-        match f {
-            ItemFound::Item(i, next, name, name_end) => {
-                q = put_part(out, q, started, p, s, name, name_end, inside);
-                started = true;
-                p += 1;
-            }
-            ItemFound::Last => {
-                p += 1;
-            }
+        if let Some(item) = find_item(p, s, inside) {
+            q = put_part(out, q, started, p, s, item.name, item.name_end, inside);
+            started = true;
         }
+        p += 1;
     }
     q
 }

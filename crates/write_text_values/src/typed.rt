@@ -13,48 +13,41 @@ ghost use Rattle.write_text_values.specs.Typed.{TypedAt};
 use crate::period::put_period;
 use crate::rule::put_rule;
 use read_xml_nodes::{NodeKind, node_end, node_head};
-use read_xml_value::{Named, element_type};
+use read_xml_value::element_type;
 use schema::value_type;
-use values::{ValueRead, read_value};
+use values::read_value;
 use write_text_pieces::{put_between, put_leaf};
 
-// A value's element: the number of its type, where its content begins, whether its tag opens it, and the place behind the tag; or there is none.
-#[derive(Clone, Copy)]
-pub enum TypedFound {
-    Value(usize, usize, bool, usize),
-    Last,
+// A value's element: the number of its type, where its content begins, whether its tag opens it, and the place behind the tag.
+#[derive(Clone, Copy, Debug, PartialEq, Eq)]
+pub struct Typed {
+    pub value_type: usize,
+    pub inside: usize,
+    pub opens: bool,
+    pub next: usize,
 }
 
 // The first element, from `at` on, that is named as a type.
-fn find_typed(s: &[u8], at: usize) -> TypedFound
+fn find_typed(s: &[u8], at: usize) -> Option<Typed>
     ensures { TypedAt s.now at result }
 {
     let mut c = at;
-    loop {
+    'values: loop {
         let n = node_head(s, c);
-        let kind = n.kind;
-        match kind {
-            NodeKind::None => {
-                return TypedFound::Last;
-            }
+        match n.kind {
+            NodeKind::Absent => return None,
             NodeKind::Element => {
-                let m = element_type(s, n.name, n.name_end);
-                match m {
-                    Named::Type(t) => {
-                        return TypedFound::Value(t, n.inside, n.opens, n.next);
-                    }
-                    Named::Bad => {
-                        let e = node_end(s, c, n.opens, n.next);
-                        c = e.next;
-                    }
+                if let Some(value_type) = element_type(s, n.name, n.name_end) {
+                    return Some(Typed {
+                        value_type,
+                        inside: n.inside,
+                        opens: n.opens,
+                        next: n.next,
+                    });
                 }
+                c = node_end(s, c, n.opens, n.next).next;
             }
-            NodeKind::Literal => {
-                c = n.next;
-            }
-            NodeKind::Referred => {
-                c = n.next;
-            }
+            NodeKind::Literal | NodeKind::Referred => c = n.next,
         }
     }
 }
@@ -91,20 +84,12 @@ pub fn put_typed(out: &mut [u8], o: usize, s: &[u8], inside: usize) -> usize
     let mut q = o;
     let mut c = inside;
     let mut started = false;
-    loop {
-        let f = find_typed(s, c);
-        match f {
-            TypedFound::Value(t, i, opens, next) => {
-                q = put_one_value(out, q, started, t, s, i);
-                started = true;
-                let e = node_end(s, c, opens, next);
-                c = e.next;
-            }
-            TypedFound::Last => {
-                return q;
-            }
-        }
+    while let Some(value) = find_typed(s, c) {
+        q = put_one_value(out, q, started, value.value_type, s, value.inside);
+        started = true;
+        c = node_end(s, c, value.opens, value.next).next;
     }
+    q
 }
 
 // The number of the type of what is stated as the type of the number `t`: what can't be read counts as a TEXT.
@@ -118,10 +103,9 @@ fn type_of_value(t: usize, s: &[u8], i: usize) -> usize
     if t == value_type::RECUR {
         return value_type::RECUR;
     }
-    let v = read_value(true, t, 1, s, 2 * i);
-    match v {
-        ValueRead::Good(u) => t,
-        ValueRead::Bad => value_type::TEXT,
+    match read_value(true, t, 1, s, 2 * i) {
+        Some(_) => t,
+        None => value_type::TEXT,
     }
 }
 
@@ -130,9 +114,8 @@ pub fn type_of_typed(s: &[u8], inside: usize) -> usize
     requires { length s.now ≤ 65535 }
     ensures { (type_at result ≡ type_of_all (typed_values (nodes_at s.now inside))) × (result ≤ 14) }
 {
-    let f = find_typed(s, inside);
-    match f {
-        TypedFound::Value(t, i, opens, next) => type_of_value(t, s, i),
-        TypedFound::Last => value_type::UNKNOWN,
+    match find_typed(s, inside) {
+        Some(value) => type_of_value(value.value_type, s, value.inside),
+        None => value_type::UNKNOWN,
     }
 }

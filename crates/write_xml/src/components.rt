@@ -31,8 +31,7 @@ pub fn put_components(
     let mut at = from;
     while at < s.len() {
         let f = bound_at(edition, mode, s, at);
-        let kind = f.kind;
-        match kind {
+        match f.kind {
             Kind::Begin => {
                 let l = f.line;
                 let h = put_head(out, p, edition, mode, s, l.value, f.end, f.next, left);

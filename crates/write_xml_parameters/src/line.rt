@@ -25,23 +25,13 @@ fn is_bare(mode: usize, s: &[u8], at: usize) -> bool
     ensures { result ≡ is_empty (own_parameters (params_at mode s.now at)) }
 {
     let mut c = at;
-    loop {
-        let p = next_param(mode, s, c);
-        if p.there {
-            if p.ok {
-                let value = is_value_name(mode, s, p.name, p.end);
-                if value {
-                    c = p.next;
-                } else {
-                    return false;
-                }
-            } else {
-                return true;
-            }
-        } else {
-            return true;
+    while let Ok(Some(p)) = next_param(mode, s, c) {
+        if !is_value_name(mode, s, p.name, p.end) {
+            return false;
         }
+        c = p.next;
     }
+    true
 }
 
 // The elements of all parameters but VALUE.
@@ -51,19 +41,11 @@ fn put_each(out: &mut [u8], o: usize, edition: Edition, mode: usize, s: &[u8], a
 {
     let mut q = o;
     let mut c = at;
-    loop {
-        let p = next_param(mode, s, c);
-        if p.there {
-            if p.ok {
-                q = put_cut_own(out, q, edition, mode, s, p.name, p.end, p.first);
-                c = p.next;
-            } else {
-                return q;
-            }
-        } else {
-            return q;
-        }
+    while let Ok(Some(p)) = next_param(mode, s, c) {
+        q = put_cut_own(out, q, edition, mode, s, p.name, p.end, p.first);
+        c = p.next;
     }
+    q
 }
 
 fn put_element(
@@ -96,13 +78,11 @@ pub fn put_parameters(
     ensures { Put out.old out.new o result
         (parameters_element (read_or [] (read_parameters (params_in edition mode s.now e)))) }
 {
-    let read = are_read(edition, mode, s, e);
-    if read {
-        let bare = is_bare(mode, s, e);
-        if bare {
-            return o;
-        }
-        return put_element(out, o, edition, mode, s, e);
+    if !are_read(edition, mode, s, e) {
+        return o;
     }
-    o
+    if is_bare(mode, s, e) {
+        return o;
+    }
+    put_element(out, o, edition, mode, s, e)
 }

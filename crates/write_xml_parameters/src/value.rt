@@ -71,19 +71,11 @@ fn put_next_values(
 {
     let mut p = o;
     let mut c = at;
-    loop {
-        let v = next_value(mode, s, c);
-        if v.there {
-            if v.ok {
-                p = put_cut_value(out, p, edition, q, mode, s, v.from, v.to);
-                c = v.next;
-            } else {
-                return p;
-            }
-        } else {
-            return p;
-        }
+    while let Ok(Some(v)) = next_value(mode, s, c) {
+        p = put_cut_value(out, p, edition, q, mode, s, v.from, v.to);
+        c = v.next;
     }
+    p
 }
 
 // All values of the parameter `q`, from its first on.
@@ -100,10 +92,9 @@ pub fn put_values(
     ensures { Put out.old out.new o result
         (joined (map (chars_in edition (row_at q)) (values_at mode s.now at))) }
 {
-    let v = param_value(mode, s, at);
-    if v.ok {
-        let a = put_cut_value(out, o, edition, q, mode, s, v.from, v.to);
-        return put_next_values(out, a, edition, q, mode, s, v.next);
-    }
-    o
+    let Ok(v) = param_value(mode, s, at) else {
+        return o;
+    };
+    let a = put_cut_value(out, o, edition, q, mode, s, v.from, v.to);
+    put_next_values(out, a, edition, q, mode, s, v.next)
 }

@@ -7,7 +7,7 @@ ghost use Rattle.write_xml_property.specs.Property.{stated_xml, content_xml, par
 use crate::shown::put_values;
 use edition::Edition;
 use read_text_line::LineCursors;
-use read_text_parameters::{TypeRead, stated_type};
+use read_text_parameters::stated_type;
 use schema::{Context, row_of, value_type};
 use tags::{put_small_end, put_small_start};
 use write_xml_parameters::put_parameters;
@@ -27,20 +27,13 @@ fn put_stated(
 {
     let e = l.parameters;
     let row = row_of(mode, &s[..e], l.name);
-    let TypeRead::Type(t) = stated_type(edition, row.default, mode, s, e) else {
-        let untyped = Context {
-            component: k,
-            row,
-            value_type: value_type::TEXT,
-        };
-        return put_values(out, o, untyped, mode, s, l.value);
-    };
-    let c = Context {
+    let stated = stated_type(edition, row.default, mode, s, e).unwrap_or(value_type::TEXT);
+    let context = Context {
         component: k,
         row,
-        value_type: t,
+        value_type: stated,
     };
-    put_values(out, o, c, mode, s, l.value)
+    put_values(out, o, context, mode, s, l.value)
 }
 
 // The parameters and the values.

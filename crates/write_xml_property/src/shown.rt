@@ -14,7 +14,7 @@ ghost use Rattle.write_xml_property.specs.Shown.{single_xml, shown_xml};
 
 use crate::geo::put_geo;
 use crate::list::put_list;
-use read_text_property::{ValuesRead, read_values};
+use read_text_property::read_values;
 use schema::{Context, component, has_words, property, value_type};
 use texts::put_request_status_xml;
 use write_xml_value::{put_value_element, put_word_element};
@@ -80,16 +80,13 @@ pub fn put_values(out: &mut [u8], o: usize, c: Context, mode: usize, s: &[u8], a
         (read_or [] (read_values (component_name c.component) w (type_at c.value_type)
         (rest mode s.now at)))) }
 {
-    let a = component_place(c.component);
-    let row = c.row;
-    let u = type_place(c.value_type);
     let d = Context {
-        component: a,
-        row,
-        value_type: u,
+        component: component_place(c.component),
+        row: c.row,
+        value_type: type_place(c.value_type),
     };
-    let ValuesRead::Good(n) = read_values(d, mode, s, at) else {
-        return o;
-    };
-    put_shown(out, o, d, mode, s, at)
+    match read_values(d, mode, s, at) {
+        Some(_) => put_shown(out, o, d, mode, s, at),
+        None => o,
+    }
 }

@@ -12,7 +12,7 @@ ghost use Rattle.write_xml_value.specs.PutPeriod.{start_element, end_element, pe
 
 use markup::element;
 use tags::{put_end_tag, put_start_tag};
-use times::period::{PeriodRead, put_period_end, put_period_start, read_period};
+use times::period::{put_period_end, put_period_start, read_period};
 
 fn put_start_element(out: &mut [u8], o: usize, mode: usize, s: &[u8], at: usize) -> usize
     ensures { Put out.old out.new o result (start_element (rest mode s.now at)) }
@@ -69,9 +69,8 @@ pub fn put_period_element(out: &mut [u8], o: usize, mode: usize, s: &[u8], at: u
     ensures { Put out.old out.new o result
         (or_nothing value_xml (read_value ical PERIOD (rest mode s.now at))) }
 {
-    let r = read_period(mode, s, at);
-    match r {
-        PeriodRead::Between(n, k, x, c) => put_period_xml(out, o, x, mode, s, at),
-        PeriodRead::NoPeriod => o,
+    match read_period(mode, s, at) {
+        Some(period) => put_period_xml(out, o, period.explicit, mode, s, at),
+        None => o,
     }
 }

@@ -1,5 +1,5 @@
 // A recurrence rule as elements: each part in the schema's order, an element for each of its items. See specs/Rules.antt and specs/laws/PutRule.antt.
-ghost use Rattle.std.specs.Prelude.{◌≡◌, true, [], ◌+◌, ◌≤◌, length, get_or};
+ghost use Rattle.std.specs.Prelude.{◌≡◌, true, [], ◌≤◌, length, get_or, IfSome};
 ghost use Rattle.octets.specs.Words.{cut_at};
 ghost use Rattle.octets.specs.Reading.{or_nothing};
 ghost use Rattle.sink.specs.Sink.{Put};
@@ -58,16 +58,22 @@ fn put_piece_xml(out: &mut [u8], o: usize, p: usize, mode: usize, s: &[u8], at: 
     put_item_xml(out, o, p, mode, s, v)
 }
 
-// The part at the place `p`: `noted` is the cursor at its piece and one more; 0 where there is none.
-fn put_part_xml(out: &mut [u8], o: usize, p: usize, mode: usize, s: &[u8], noted: usize) -> usize
-    requires { (cuts mode ≡ true) × (noted ≤ length s.now + 1) }
+// The part at the place `p`, whose piece begins at the cursor `begin`, if it is there.
+fn put_part_xml(
+    out: &mut [u8],
+    o: usize,
+    p: usize,
+    mode: usize,
+    s: &[u8],
+    begin: Option<usize>,
+) -> usize
+    requires { (cuts mode ≡ true) × IfSome begin (λ c. c ≤ length s.now) }
     ensures { Put out.old out.new o result
-        (or_nothing (piece_xml (get_or part_names p [])) (piece_from mode s.now noted)) }
+        (or_nothing (piece_xml (get_or part_names p [])) (piece_from mode s.now begin)) }
 {
-    if noted == 0 {
+    let Some(c) = begin else {
         return o;
-    }
-    let c = noted - 1;
+    };
     let e = byte_end(SEMICOLON, mode, s, c);
     put_piece_xml(out, o, p, mode, &s[..e], c)
 }
@@ -79,7 +85,7 @@ pub fn put_parts_xml(
     mode: usize,
     s: &[u8],
     at: usize,
-    begins: [usize; 14],
+    begins: [Option<usize>; 14],
 ) -> usize
     requires { (cuts mode ≡ true) × Standing mode s.now at begins }
     ensures { Put out.old out.new o result (named_xml part_names (cut_at 59 (rest mode s.now at))) }

@@ -23,7 +23,7 @@ use markup::element;
 use recur::rule::read_parts;
 use schema::value_type;
 use tags::{put_end_tag, put_start_tag};
-use values::{ValueRead, put_value_xml, read_value};
+use values::{put_value_xml, read_value};
 
 // The rule from the cursor `at` to the end, whose parts stand where `begins` says.
 fn put_recur_xml(
@@ -32,7 +32,7 @@ fn put_recur_xml(
     mode: usize,
     s: &[u8],
     at: usize,
-    begins: [usize; 14],
+    begins: [Option<usize>; 14],
 ) -> usize
     requires { (cuts mode ≡ true) × Standing mode s.now at begins }
     ensures { Put out.old out.new o result
@@ -48,12 +48,10 @@ fn put_recur_element(out: &mut [u8], o: usize, mode: usize, s: &[u8], at: usize)
     ensures { Put out.old out.new o result
         (or_nothing value_xml (read_value ical RECUR (rest mode s.now at))) }
 {
-    let r = read_parts(mode, s, at);
-    if r.good {
-        let begins = r.begins;
-        return put_recur_xml(out, o, mode, s, at, begins);
+    match read_parts(mode, s, at) {
+        Some(begins) => put_recur_xml(out, o, mode, s, at, begins),
+        None => o,
     }
-    o
 }
 
 fn put_plain_xml(out: &mut [u8], o: usize, t: usize, mode: usize, s: &[u8], at: usize) -> usize
@@ -71,10 +69,9 @@ fn put_plain_element(out: &mut [u8], o: usize, t: usize, mode: usize, s: &[u8], 
     ensures { Put out.old out.new o result
         (or_nothing value_xml (read_value ical (type_at t) (rest mode s.now at))) }
 {
-    let r = read_value(false, t, mode, s, at);
-    match r {
-        ValueRead::Good(k) => put_plain_xml(out, o, t, mode, s, at),
-        ValueRead::Bad => o,
+    match read_value(false, t, mode, s, at) {
+        Some(_) => put_plain_xml(out, o, t, mode, s, at),
+        None => o,
     }
 }
 

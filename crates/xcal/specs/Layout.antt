@@ -4,8 +4,7 @@
 --     Slot         a place in the order: the names that may stand there, whether several may, whether one must
 --     sequence     the verdict on children by a list of slots, each child's inside judged by a test of its own
 --     leaf         the verdict on an element of character data
-use Rattle.std.specs.Prelude.{Bool, false, not, List, [], ◌∷◌, ℕ, suc, ltb}
-use Rattle.std.proofs.Math.Option.{Option, none, some}
+use Rattle.std.specs.Prelude.{Bool, false, not, List, [], ◌∷◌, ℕ, suc, ltb, Option, None, Some}
 use Rattle.octets.specs.Pick.{pick, ◌and◌, ◌or◌}
 use Rattle.octets.specs.Class.{is_capital, is_space}
 use Rattle.octets.specs.Words.{is_one_of}
@@ -30,13 +29,13 @@ pub record Slot : Type 0 where
 
 -- where a name stands in the order: the slot's number from k on, and whether several may stand there
 abbrev pub slot_of : List ℕ → List Slot → ℕ → Option (ℕ × Bool)
-slot_of n [] k = none
-slot_of n (s ∷ ss) k = pick (is_one_of n s.names) (some (k, s.several)) (slot_of n ss (suc k))
+slot_of n [] k = None
+slot_of n (s ∷ ss) k = pick (is_one_of n s.names) (Some (k, s.several)) (slot_of n ss (suc k))
 
 -- the first slot that may come after this child, where slots before `next` have passed; none where the child is unknown, surplus or misplaced
 abbrev pub after_slot : Option (ℕ × Bool) → ℕ → Option ℕ
-after_slot none next = none
-after_slot (some x) next = pick (ltb x.0 next) none (some (pick x.1 x.0 (suc x.0)))
+after_slot None next = None
+after_slot (Some x) next = pick (ltb x.0 next) None (Some (pick x.1 x.0 (suc x.0)))
 
 -- a slot that must be filled is not
 unfoldable pub lacks : List Slot → List (List ℕ) → Bool
@@ -46,8 +45,8 @@ lacks slots seen = any_one (λ (s : Slot). s.required and not (any_one (λ n. is
 
 -- a child of the name n at place p: refused, or judged inside and then the rest
 abbrev pub admitted : Option ℕ → ℕ → List ℕ → Verdict → (ℕ → Verdict) → Verdict
-admitted none p n inside rest = unexpected p n
-admitted (some next) p n inside rest = inside otherwise rest next
+admitted None p n inside rest = unexpected p n
+admitted (Some next) p n inside rest = inside otherwise rest next
 
 -- inside p n e kids is the verdict on a child's own content; e is the place of the parent's end tag
 unfoldable pub sequence : List Slot → (ℕ → List ℕ → ℕ → Nodes → Verdict) → Nodes → ℕ → List (List ℕ) → ℕ → Verdict

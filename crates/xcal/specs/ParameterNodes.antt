@@ -4,8 +4,7 @@
 --     parameters_verdict    the verdict on the children of `parameters`
 --     read_parameter_nodes  the parameters that they state
 --     has_encoding          whether ENCODING stands among a property's parameters
-use Rattle.std.specs.Prelude.{Bool, true, false, not, List, [], ◌∷◌, ℕ, eqb}
-use Rattle.std.proofs.Math.Option.{Option, none, some}
+use Rattle.std.specs.Prelude.{Bool, true, false, not, List, [], ◌∷◌, ℕ, eqb, Option, None, Some}
 use Rattle.octets.specs.Ascii.{ascii}
 use Rattle.octets.specs.Pick.{pick, ◌and◌, ◌or◌}
 use Rattle.octets.specs.Class.{upper, lower, is_space}
@@ -27,20 +26,20 @@ use Rattle.xcal.specs.Layout.{has_capital}
 
 -- a word of a closed set exactly; that of an unrecognised parameter is any characters
 abbrev pub read_word_in : Option (List (List ℕ)) → ValueType → List ℕ → Option Value
-read_word_in none t s = pick (same_type t UNKNOWN) (some (unknown s)) (read_value xcal t s)
-read_word_in (some words) t s = provided (is_one_of s words) (text s)
+read_word_in None t s = pick (same_type t UNKNOWN) (Some (unknown s)) (read_value xcal t s)
+read_word_in (Some words) t s = provided (is_one_of s words) (text s)
 
 unfoldable pub read_param_node : List ℕ → Nodes → Option Value
 read_param_node n kids =
-    pick (has_element kids) none (read_word_in (parameter_words n) (parameter_type n) (characters_of kids))
+    pick (has_element kids) None (read_word_in (parameter_words n) (parameter_type n) (characters_of kids))
 
 -- the children of the parameter n, each an element named as its type; none where another thing stands there
 unfoldable pub read_param_nodes : List ℕ → Nodes → Option (List Value)
-read_param_nodes n no_nodes = some []
-read_param_nodes n (literal p b more) = pick (is_space b) (read_param_nodes n more) none
-read_param_nodes n (referred p bs more) = none
+read_param_nodes n no_nodes = Some []
+read_param_nodes n (literal p b more) = pick (is_space b) (read_param_nodes n more) None
+read_param_nodes n (referred p bs more) = None
 read_param_nodes n (element p m x kids more) =
-    pick (same m (lower (type_name (parameter_type n)))) (and_then (read_param_node n kids) (λ v. cons_read v (read_param_nodes n more))) none
+    pick (same m (lower (type_name (parameter_type n)))) (and_then (read_param_node n kids) (λ v. cons_read v (read_param_nodes n more))) None
 
 -- one value, unless the parameter is listed
 abbrev pub as_many : Bool → List Value → Bool
@@ -48,8 +47,8 @@ as_many listed [] = true
 as_many listed (v ∷ vs) = listed or is_empty vs
 
 abbrev pub values_good : Bool → Option (List Value) → Bool
-values_good listed none = false
-values_good listed (some vs) = as_many listed vs
+values_good listed None = false
+values_good listed (Some vs) = as_many listed vs
 
 -- ---- what an edition can spell
 

@@ -2,8 +2,7 @@
 --     property_verdict    the verdict on a property's element
 --     properties_verdict  the verdict on the children of `properties`
 --     property_in         the property that an element states;   read_properties: the properties of the children
-use Rattle.std.specs.Prelude.{Bool, true, false, not, List, [], ◌∷◌, ℕ}
-use Rattle.std.proofs.Math.Option.{Option, none, some}
+use Rattle.std.specs.Prelude.{Bool, true, false, not, List, [], ◌∷◌, ℕ, Option, None, Some}
 use Rattle.octets.specs.Ascii.{ascii}
 use Rattle.octets.specs.Pick.{pick, ◌and◌, ◌or◌}
 use Rattle.octets.specs.Class.{upper, is_space}
@@ -30,8 +29,8 @@ property_slots n = may (ascii "parameters") ∷ value_slots n
 
 -- the children of the `parameters` that stands in its place, before any part of the value
 abbrev pub still_before : Option (ℕ × Bool) → Bool
-still_before none = true
-still_before (some x) = false
+still_before None = true
+still_before (Some x) = false
 
 unfoldable pub parameters_in : List ℕ → Nodes → Nodes
 parameters_in n no_nodes = no_nodes

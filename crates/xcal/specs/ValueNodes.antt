@@ -2,8 +2,7 @@
 --     value_slots n          the children that are the value of the property n
 --     value_verdict          the verdict on one of them
 --     read_value_nodes       the values that the children of a property state
-use Rattle.std.specs.Prelude.{Bool, true, false, List, [], ◌∷◌, map, ℕ}
-use Rattle.std.proofs.Math.Option.{Option, none, some}
+use Rattle.std.specs.Prelude.{Bool, true, false, List, [], ◌∷◌, map, ℕ, Option, None, Some}
 use Rattle.octets.specs.Ascii.{ascii}
 use Rattle.octets.specs.Pick.{pick, ◌and◌}
 use Rattle.octets.specs.Class.{upper, lower}
@@ -27,7 +26,7 @@ use Rattle.xcal.specs.Layout.{Slot, sequence, leaf}
 
 -- the type that an element's name names: one of the fourteen, or `unknown`
 unfoldable pub element_type : List ℕ → Option ValueType
-element_type n = pick (same n (ascii "unknown")) (some UNKNOWN) (pick (same n (lower n)) (type_named (upper n)) none)
+element_type n = pick (same n (ascii "unknown")) (Some UNKNOWN) (pick (same n (lower n)) (type_named (upper n)) None)
 
 abbrev pub type_elements : List (List ℕ)
 type_elements = ascii "unknown" ∷ map (λ t. lower (type_name t)) value_types
@@ -92,8 +91,8 @@ recur_inside p n x kids = leaf (λ s. is_read (read_item xcal (upper n) s)) p ki
 
 -- the characters of a value of type t: a word of a closed set exactly
 abbrev pub read_word_of : Option (List (List ℕ)) → ValueType → List ℕ → Bool
-read_word_of none t s = is_read (read_value xcal t s)
-read_word_of (some words) t s = is_one_of s words
+read_word_of None t s = is_read (read_value xcal t s)
+read_word_of (Some words) t s = is_one_of s words
 
 unfoldable pub typed_verdict : List ℕ → List ℕ → ValueType → ℕ → ℕ → Nodes → Verdict
 typed_verdict k n t p e kids =
@@ -103,8 +102,8 @@ typed_verdict k n t p e kids =
 
 -- an element of the value of the property n in a component k, where t is the type of its first value: a type that is not permitted, or not that one, is refused
 abbrev pub as_typed : Option ValueType → List ℕ → List ℕ → ValueType → ℕ → ℕ → Nodes → Verdict
-as_typed none k n t p e kids = refuse VALUE p
-as_typed (some u) k n t p e kids = pick (is_type_of u (permitted_types n) and same_type u t) (typed_verdict k n u p e kids) (refuse VALUE p)
+as_typed None k n t p e kids = refuse VALUE p
+as_typed (Some u) k n t p e kids = pick (is_type_of u (permitted_types n) and same_type u t) (typed_verdict k n u p e kids) (refuse VALUE p)
 
 unfoldable pub value_verdict : List ℕ → List ℕ → ValueType → ℕ → List ℕ → ℕ → Nodes → Verdict
 value_verdict k n t p m e kids =
@@ -116,10 +115,10 @@ value_verdict k n t p m e kids =
 
 -- the characters of the first child of a name
 unfoldable pub child_named : List ℕ → Nodes → Option (List ℕ)
-child_named n no_nodes = none
+child_named n no_nodes = None
 child_named n (literal p b more) = child_named n more
 child_named n (referred p bs more) = child_named n more
-child_named n (element p m x kids more) = pick (same n m) (some (characters_of kids)) (child_named n more)
+child_named n (element p m x kids more) = pick (same n m) (Some (characters_of kids)) (child_named n more)
 
 abbrev pub text_of : List ℕ → Nodes → List ℕ
 text_of n kids = read_or [] (child_named n kids)
@@ -134,8 +133,8 @@ abbrev pub moment_of : List ℕ → Nodes → List ℕ
 moment_of n kids = read_or [] (read_date_time xcal (text_of n kids))
 
 abbrev pub period_of : Option (List ℕ) → Nodes → Value
-period_of none kids = period_explicit (moment_of (ascii "start") kids) (moment_of (ascii "end") kids)
-period_of (some s) kids = period_start (moment_of (ascii "start") kids) (read_or [] (read_duration xcal s))
+period_of None kids = period_explicit (moment_of (ascii "start") kids) (moment_of (ascii "end") kids)
+period_of (Some s) kids = period_start (moment_of (ascii "start") kids) (read_or [] (read_duration xcal s))
 
 -- the items of a rule part: its elements in order
 unfoldable pub items_of : List ℕ → Nodes → List RuleItem
@@ -159,8 +158,8 @@ value_of t kids =
     (read_or (text []) (read_value xcal t (characters_of kids))))
 
 abbrev pub one_of : Option ValueType → Nodes → List Value → List Value
-one_of none kids vs = vs
-one_of (some t) kids vs = value_of t kids ∷ vs
+one_of None kids vs = vs
+one_of (Some t) kids vs = value_of t kids ∷ vs
 
 unfoldable pub typed_values : Nodes → List Value
 typed_values no_nodes = []

@@ -2,8 +2,7 @@
 -- tags always both, no empty `parameters`; `components` in every VCALENDAR, elsewhere only if not empty.
 --     value_xml, parameter_xml, property_xml, components_xml  the elements of each
 --     write_document                                          the document
-use Rattle.std.specs.Prelude.{Bool, true, false, List, [], ◌∷◌, ℕ}
-use Rattle.std.proofs.Math.Option.{Option, none, some}
+use Rattle.std.specs.Prelude.{Bool, true, false, List, [], ◌∷◌, ℕ, Option, None, Some}
 use Rattle.octets.specs.Ascii.{ascii}
 use Rattle.octets.specs.Pick.{pick}
 use Rattle.octets.specs.Append.{◌⊕◌}
@@ -34,8 +33,8 @@ parts_xml [] = []
 parts_xml (p ∷ ps) = items_xml (lower p.part) p.items ⊕ parts_xml ps
 
 abbrev pub data_xml : Option (List ℕ) → List ℕ
-data_xml none = []
-data_xml (some s) = text_element (ascii "data") s
+data_xml None = []
+data_xml (Some s) = text_element (ascii "data") s
 
 abbrev pub plain_xml : Value → List ℕ
 plain_xml v = text_element (lower (type_name (type_of v))) (value_characters v)

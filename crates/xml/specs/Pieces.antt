@@ -7,8 +7,7 @@
 --     ◌then◌                 one piece and another after it
 --     quoted                 a piece between two quotes of one kind
 --     equals_sign            an equals sign, with white space round it
-use Rattle.std.specs.Prelude.{List, [], ◌∷◌, ℕ, ◌+◌, ltb, length, get_or, take, drop}
-use Rattle.std.proofs.Math.Option.{Option, none, some}
+use Rattle.std.specs.Prelude.{List, [], ◌∷◌, ℕ, ◌+◌, ltb, length, get_or, take, drop, Option, None, Some}
 use Rattle.octets.specs.Ascii.{ascii}
 use Rattle.octets.specs.Pick.{pick}
 use Rattle.octets.specs.Scan.{span_len}
@@ -37,7 +36,7 @@ unfoldable pub some_space : Piece
 some_space xs = provided (ltb 0 (span_len is_space xs)) (span_len is_space xs)
 
 unfoldable pub any_space : Piece
-any_space xs = some (span_len is_space xs)
+any_space xs = Some (span_len is_space xs)
 
 unfoldable pub xml_name : Piece
 xml_name xs = provided (is_alpha (first xs)) (span_len is_name_char xs)
@@ -48,8 +47,8 @@ name_of xs = take (span_len is_name_char xs) xs
 
 -- the sum of what two pieces take
 unfoldable pub both : ℕ → Option ℕ → Option ℕ
-both n none = none
-both n (some m) = some (n + m)
+both n None = None
+both n (Some m) = Some (n + m)
 
 infixr 45 ◌then◌
 unfoldable pub ◌then◌ : Piece → Piece → Piece

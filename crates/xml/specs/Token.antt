@@ -3,8 +3,7 @@
 --     token b s   the token that begins with the byte b, s being the bytes after b, in the content of an element or after the root
 --     root_tag b s the same where the root's tag has to stand: it alone has an attribute, the default namespace
 --     namespace   the name of the default namespace
-use Rattle.std.specs.Prelude.{Bool, List, [], ◌∷◌, ℕ, ◌+◌, ◌-◌, ◌*◌, eqb, ltb, take}
-use Rattle.std.proofs.Math.Option.{Option, none, some}
+use Rattle.std.specs.Prelude.{Bool, List, [], ◌∷◌, ℕ, ◌+◌, ◌-◌, ◌*◌, eqb, ltb, take, Option, None, Some}
 use Rattle.octets.specs.Ascii.{ascii}
 use Rattle.octets.specs.Pick.{pick, ◌and◌, ◌or◌, within}
 use Rattle.octets.specs.Scan.{span_len}
@@ -35,16 +34,16 @@ namespace_attribute = some_space then exactly (ascii "xmlns") then equals_sign t
 -- STag ::= '<' Name (S Attribute)* S? '>'
 -- EmptyElemTag ::= '<' Name (S Attribute)* S? '/>'
 unfoldable pub start_by : Option ℕ → List ℕ → Token
-start_by none s = no_token
-start_by (some n) s =
+start_by None s = no_token
+start_by (Some n) s =
     pick (starts (ascii ">") (from n s)) (s_tag (name_of s) (n + 1))
     (pick (starts (ascii "/>") (from n s)) (empty_elem_tag (name_of s) (n + 2)) no_token)
 
 -- after `</`, of which n bytes are the rest of the tag
 -- ETag ::= '</' Name S? '>'
 unfoldable pub end_by : Option ℕ → List ℕ → Token
-end_by none s = no_token
-end_by (some n) s = e_tag (name_of s) (n + 1)
+end_by None s = no_token
+end_by (Some n) s = e_tag (name_of s) (n + 1)
 
 -- after `<`, in the content
 unfoldable pub tag : List ℕ → Token

@@ -32,7 +32,7 @@ fn literal_at(s: &[u8], at: usize, u: usize) -> CharRead
             next: at,
         };
     }
-    CharRead { u: u, next: at }
+    CharRead { u, next: at }
 }
 
 // The character at the place `p`, if it is a literal byte or a reference.

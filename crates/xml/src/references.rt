@@ -25,7 +25,7 @@ const CAPITAL_BASE: usize = UPPER_A - 10;
 const SMALL_BASE: usize = LOWER_A - 10;
 
 // Where digits end, and what they are worth.
-#[derive(Clone, Copy)]
+#[derive(Clone, Copy, Debug, PartialEq, Eq)]
 pub struct Digits {
     pub end: usize,
     pub v: usize,
@@ -34,61 +34,51 @@ pub struct Digits {
 fn is_hex_digit(u: usize) -> bool
     ensures { result ≡ is_hex_digit u }
 {
-    if is_digit(u) {
-        return true;
-    }
-    if is_within(LOWER_A, LOWER_F, u) {
-        return true;
-    }
-    is_within(UPPER_A, UPPER_F, u)
+    is_digit(u) || is_within(LOWER_A, LOWER_F, u) || is_within(UPPER_A, UPPER_F, u)
 }
 
 fn is_digit_in(hex: bool, u: usize) -> bool
     ensures { result ≡ is_digit_in hex u }
 {
-    if hex {
-        return is_hex_digit(u);
-    }
-    is_digit(u)
+    if hex { is_hex_digit(u) } else { is_digit(u) }
 }
 
 // What a digit is worth.
+#[tactic(auto, using(crate::specs::laws::Digits::worths))]
 fn hex_digit_of(u: usize) -> usize
     ensures { (result ≡ hex_digit_of u) × (result ≤ u) }
 {
     if u < ZERO {
-        return 0;
+        0
+    } else if u < AFTER_DIGITS {
+        u - ZERO
+    } else if u < LOWER_A {
+        u - CAPITAL_BASE
+    } else if u < AFTER_SMALL {
+        u - SMALL_BASE
+    } else {
+        u - CAPITAL_BASE
     }
-    if u < AFTER_DIGITS {
-        return u - ZERO;
-    }
-    if u < LOWER_A {
-        return u - CAPITAL_BASE;
-    }
-    if u < AFTER_SMALL {
-        return u - SMALL_BASE;
-    }
-    u - CAPITAL_BASE
 }
 
+#[tactic(auto, using(crate::specs::laws::Digits::capping))]
 fn cap(n: usize) -> usize
     ensures { result ≡ capped n }
 {
-    if n < 0x110000 {
-        return n;
-    }
-    0x110000
+    if n < 0x110000 { n } else { 0x110000 }
 }
 
 // One digit more.
+#[tactic(auto, using(crate::specs::laws::Digits::capping))]
 fn grow(hex: bool, v: usize, d: usize) -> usize
     requires { (v ≤ 0x110000) × (d < 256) }
     ensures { result ≡ capped (v * base hex + d) }
 {
     if hex {
-        return cap(v * 16 + d);
+        cap(v * 16 + d)
+    } else {
+        cap(v * 10 + d)
     }
-    cap(v * 10 + d)
 }
 
 // The digits at a place.
@@ -104,10 +94,10 @@ fn digits_at(s: &[u8], at: usize, hex: bool) -> Digits
             v = grow(hex, v, hex_digit_of(u));
             i += 1;
         } else {
-            return Digits { end: i, v: v };
+            return Digits { end: i, v };
         }
     }
-    Digits { end: i, v: v }
+    Digits { end: i, v }
 }
 
 // The character whose number stands in digits, k bytes after `at`.

@@ -14,13 +14,13 @@ ghost use Rattle.calls.specs.ToText.{to_text_outcome, to_text_output};
 ghost use Rattle.calls.specs.Answered.{outcome_of, Done};
 ghost use Rattle.xml_to_text.specs.Steps.{nodes_give};
 
-use calls::{Answer, refused};
-use edition::{Edition, EditionRead, edition_of};
+use calls::Answer;
+use edition::{Edition, edition_of};
 use read_xml::root_verdict;
-use read_xml_nodes::{Judged, root_node};
-use read_xml_tokens::{Xml, well_formed};
+use read_xml_nodes::root_node;
+use read_xml_tokens::well_formed;
 use refusals::Refusal;
-use utf8::{Found, first_bad};
+use utf8::first_bad;
 use write_text::put_calendar;
 
 // The text of the components from `from` on, where there is certainly room for it. `line` is the room for a line.
@@ -38,8 +38,7 @@ fn written_at_once(
     ensures { Done (converted (write_calendar edition) (answer fine (read_calendars (nodes_at s.now from))))
         out.old out.new result }
 {
-    let n = put_calendar(out, 0, edition, line, s, from);
-    Answer::Written(n)
+    Answer::Written(put_calendar(out, 0, edition, line, s, from))
 }
 
 // The text of the components from `from` on: first how long it is, then, if there is room, all of it.
@@ -91,10 +90,9 @@ fn judged(edition: Edition, s: &[u8], out: &mut [u8]) -> Answer
         out.old out.new result }
 {
     let t = root_node(s);
-    let from = t.inside;
     match root_verdict(edition, s, t) {
-        Judged::Refused(n, p) => refused(n, p),
-        Judged::Fine => lined(edition, s, from, out),
+        Err(fault) => Answer::from(fault),
+        Ok(()) => lined(edition, s, t.inside, out),
     }
 }
 
@@ -106,8 +104,8 @@ fn formed(edition: Edition, s: &[u8], out: &mut [u8]) -> Answer
         out.new result }
 {
     match well_formed(s) {
-        Xml::Refused(p) => Answer::Refused(Refusal::Xml, p),
-        Xml::Fine => judged(edition, s, out),
+        Err(fault) => Answer::from(fault),
+        Ok(()) => judged(edition, s, out),
     }
 }
 
@@ -121,8 +119,8 @@ fn in_edition(edition: Edition, s: &[u8], out: &mut [u8]) -> Answer
         out.new result }
 {
     match first_bad(s) {
-        Found::At(p) => Answer::Refused(Refusal::Character, p),
-        Found::Nothing => formed(edition, s, out),
+        Some(p) => Answer::Refused(Refusal::Character, p),
+        None => formed(edition, s, out),
     }
 }
 
@@ -131,15 +129,11 @@ pub fn to_text(input: &[u8], out: &mut [u8], edition: u32) -> Answer
     ensures { (outcome_of result ≡ to_text_outcome input.now out.old edition)
         × (out.new ≡ to_text_output input.now out.old edition) }
 {
-    if input.len() <= 65535 {
-        match edition_of(edition) {
-            EditionRead::Known(e) => {
-                return in_edition(e, input, out);
-            }
-            EditionRead::Unknown => {
-                return Answer::Refused(Refusal::Edition, 0);
-            }
-        }
+    if 65535 < input.len() {
+        return Answer::Refused(Refusal::Length, 0);
     }
-    Answer::Refused(Refusal::Length, 0)
+    match edition_of(edition) {
+        Some(e) => in_edition(e, input, out),
+        None => Answer::Refused(Refusal::Edition, 0),
+    }
 }

@@ -1,5 +1,4 @@
 -- `bits::insert` meets its contract.
-use borrow.Author.Rules.{rules}
 use Rattle.bits.specs.laws.Masks.{has_insert}
 use Rattle.bits.proofs.insert.Goals as goal
 

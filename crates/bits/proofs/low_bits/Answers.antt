@@ -1,5 +1,4 @@
 -- `bits::low_bits` meets its contract.
-use borrow.Author.Rules.{rules}
 use lib.Bits.{and_mask}
 use Rattle.bits.specs.laws.Masks.{one_shifted, one_shifted_pos}
 use Rattle.bits.proofs.low_bits.Goals as goal

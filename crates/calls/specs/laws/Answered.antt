@@ -1,7 +1,6 @@
 -- Laws of what specs/Answered.antt defines.
 --     value_told        the one value of an answer is its place or its length: the other is 0
 --     number_small      every refusal's number is one byte
---     cast_fits, cast_back   what a cast of an enum to its number asks, and gives
 --     answer_refusal    the answer of a number stands for the refusal of that number
 --     done_..           what the steps of a conversion do
 use Rattle.std.specs.Prelude.{◌≡◌, refl, Bool, true, false, List, [], ◌++◌, ℕ, zero, suc, ◌+◌, ◌^◌, ◌≤◌, ◌<◌, T, pos, nat_abs}
@@ -20,7 +19,8 @@ use Rattle.sink.specs.Sink.{Put, far, overwrite}
 use Rattle.sink.specs.laws.Sink.{overwrite_fits}
 use Rattle.calls.specs.Conversion.{result, fault, Outcome, written, refusal, is_room, told, numbers, outcome, contents}
 use Rattle.refusals.specs.declared.Refusal as coded
-use Rattle.calls.specs.Answered.{refusal_of, outcome_of, answer_at, Done}
+use Rattle.refusals.specs.Fault.{refusal_of}
+use Rattle.calls.specs.Answered.{outcome_of, answer_at, Done}
 use Rattle.calls.specs.declared.Answer.{Answer}
 use Rattle.calls.specs.declared.Answer.TheVariants.{Written, Needs}
 
@@ -47,20 +47,6 @@ number_small ROOM = omega arith
 number_small XML = omega arith
 number_small JSON = omega arith
 number_small EDITION = omega arith
-
--- a cast reads an enum's number as a signed one; a small number is the same
-module _ (r : coded.Refusal) where
-  signed : to_z w64 (number_of (refusal_of r)) ≡ pos (number_of (refusal_of r))
-  signed = to_z_pos w64 {n = number_of (refusal_of r)} (omega (arith, number_small (refusal_of r)))
-
-  pub cast_fits : T (non_neg (to_z w64 (number_of (refusal_of r)))) × Fits w64 (nat_abs (to_z w64 (number_of (refusal_of r))))
-  cast_fits = rw signed (tt, record { fits = omega (arith, number_small (refusal_of r)) })
-
-  pub cast_back : nat_abs (to_z w64 (number_of (refusal_of r))) ≡ number_of (refusal_of r)
-  cast_back = ap nat_abs signed
-
-pub number_told : {r s : coded.Refusal} → r ≡ s → number_of (refusal_of s) ≡ number_of (refusal_of r)
-number_told e = ap (λ (x : coded.Refusal). number_of (refusal_of x)) (sym e)
 
 -- the answer of a number stands for the refusal of that number
 other : (n p : ℕ) → 14 ≤ n → outcome_of (answer_at n p) ≡ refusal LENGTH p

@@ -2,10 +2,9 @@
 --     work_kept_long     an input over the limit
 --     work_kept_short    a work room that is shorter than the input
 --     work_kept_edition  a number that names no edition
-use Rattle.std.specs.Prelude.{◌≡◌, Bool, List, ℕ, ◌<◌, leb, length}
+use Rattle.std.specs.Prelude.{◌≡◌, Bool, List, ℕ, ◌<◌, leb, length, None}
 use Rattle.std.proofs.Math.Path.{refl}
 use Rattle.std.proofs.Math.Bool.{true, false}
-use Rattle.std.proofs.Math.Option.{none}
 use Rattle.std.proofs.lemmas.Bool.{lt-leb}
 use Rattle.octets.specs.Pick.{pick}
 use Rattle.calendar.specs.Refusal.{limit}
@@ -26,6 +25,6 @@ module _ (s work : List ℕ) (edition : ℕ) where
   unfolding to_xml_work pick
   work_kept_short h = rw (lt-leb (length s) (length work) h) (either (leb (length s) limit))
 
-  pub work_kept_edition : edition_of edition ≡ none → to_xml_work s work edition ≡ work
+  pub work_kept_edition : edition_of edition ≡ None → to_xml_work s work edition ≡ work
   unfolding to_xml_work
   work_kept_edition h = rw (h, either (leb (length s) (length work))) (either (leb (length s) limit))

@@ -1,6 +1,5 @@
 -- `characters::first_bad` meets its contract.
 use Rattle.characters.specs.laws.Judging.{judged_plain}
-use borrow.Author.Rules.{rules}
 use Rattle.characters.proofs.first_bad.Goals as goal
 
 pub returns-then-mode-eq0 : goal.returns-then-mode-eq0

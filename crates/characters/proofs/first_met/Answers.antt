@@ -10,13 +10,13 @@ pub loop-c-init : goal.loop-c-init
 loop-c-init c = judging_start _ _ c.at_start-st.ensures
 
 pub overflow_add-i : goal.overflow_add-i
-overflow_add-i c = let k = judging_on c.loop-c.invariant c.unit-x.ensures c.if-u-lt-END.true in omega (arith, k, c.loop-c.invariant.count)
+overflow_add-i c = let k = judging_on c.loop-c.invariant c.unit-x.ensures c.if-x-lt-END.true in omega (arith, k, c.loop-c.invariant.count)
 
 pub loop-c-smaller : goal.loop-c-smaller
-loop-c-smaller c = omega (arith, c.unit-x.ensures.moved, c.unit-x.ensures.inside, c.if-u-lt-END.true)
+loop-c-smaller c = omega (arith, c.unit-x.ensures.moved, c.unit-x.ensures.inside, c.if-x-lt-END.true)
 
 pub loop-c-preserved : goal.loop-c-preserved
-loop-c-preserved c = judging_more c.loop-c.invariant c.unit-x.ensures c.if-u-lt-END.true c.read-st.ensures
+loop-c-preserved c = judging_more c.loop-c.invariant c.unit-x.ensures c.if-x-lt-END.true c.read-st.ensures
 
-pub returns-else-u-lt-END : goal.returns-else-u-lt-END
-returns-else-u-lt-END c = judging_end c.loop-c.invariant c.unit-x.ensures c.if-u-lt-END.false c.end.ensures
+pub returns-else-x-lt-END : goal.returns-else-x-lt-END
+returns-else-x-lt-END c = judging_end c.loop-c.invariant c.unit-x.ensures c.if-x-lt-END.false c.end.ensures

@@ -1,17 +1,15 @@
 -- The check of the characters, a byte a turn.
 --     Judging    the state of the check after i bytes, at the cursor c;   judging_start, -more, -end: its laws
-use Rattle.std.specs.Prelude.{◌≡◌, refl, List, ℕ, ◌+◌, ◌≤◌, ◌<◌}
+use Rattle.std.specs.Prelude.{◌≡◌, refl, List, ℕ, ◌+◌, ◌≤◌, ◌<◌, Option}
 use Rattle.std.proofs.Common.{sym, ◌∙◌, arith}
 use Rattle.std.proofs.Math.Path.{ap}
-use Rattle.std.proofs.Math.Option.{Option}
 use Rattle.octets.specs.Scan.{foldi}
 use Rattle.source.specs.Source.{rest, Reads}
 use Rattle.source.specs.laws.Facts.{rest_byte, rest_end, byte_small, rest_plain}
 use Rattle.source.specs.declared.Step.{Step}
 use Rattle.utf8.specs.Utf8.{first_bad}
-use Rattle.utf8.specs.Automaton.{found_of, start, step, verdict}
+use Rattle.utf8.specs.Automaton.{start, step, verdict}
 use Rattle.utf8.specs.laws.Automaton.{finds}
-use Rattle.utf8.specs.declared.Found.{Found}
 use Rattle.utf8.specs.declared.Reading.{Reading}
 
 pub record Judging (m : ℕ) (s : List ℕ) (st : Reading) (i c : ℕ) : Type 0 where
@@ -29,12 +27,12 @@ module _ {m : ℕ} {s : List ℕ} {st : Reading} {i c : ℕ} {x : Step} (j : Jud
   unfolding foldi
   judging_more l f = record { left = j.left ∙ rw (rest_byte p (λ e. omega arith), f); count = let k = judging_on l in omega (arith, k, j.count) }
 
-  pub judging_end : {r : Found} → 256 ≤ x.u → r ≡ verdict st → found_of r ≡ first_bad (rest m s 0)
+  pub judging_end : {r : Option ℕ} → 256 ≤ x.u → r ≡ verdict st → r ≡ first_bad (rest m s 0)
   unfolding foldi
   judging_end l f =
       let e : x.u ≡ 256 = omega (arith, p.small) in
       let g : foldi step start 0 (rest m s 0) ≡ st = j.left ∙ rw (rest_end p e) in
-      ap found_of f ∙ ap (λ (y : Reading). found_of (verdict y)) (sym g) ∙ finds (rest m s 0)
+      f ∙ ap verdict (sym g) ∙ finds (rest m s 0)
 
 -- bytes as they stand
 pub judged_plain : {o : Option ℕ} (m : ℕ) (s : List ℕ) → m ≡ 0 → o ≡ first_bad s → o ≡ first_bad (rest m s 0)

@@ -4,8 +4,8 @@ use mathlib.Core.Path.{sym}
 use borrow.Author.Rules.{rules}
 use Rattle.distinct.proofs.by_order.Goals as goal
 
-pub returns-then-alike : goal.returns-then-alike
-returns-then-alike c = sym (c.are_alike-alike.ensures c.if-alike.true)
+pub returns-then-are_alike : goal.returns-then-are_alike
+returns-then-are_alike c = sym (c.are_alike.ensures c.if-are_alike.true)
 
-pub returns-then-ordered : goal.returns-then-ordered
-returns-then-ordered c = sym (rising_distinct (rising_fewer c.rise-r.ensures c.if-r-n.false) (c.is_order-ordered.ensures c.if-ordered.true))
+pub returns-then-is_order : goal.returns-then-is_order
+returns-then-is_order c = sym (rising_distinct (rising_fewer c.rise-r.ensures c.if-r-n.false) (c.is_order.ensures c.if-is_order.true))

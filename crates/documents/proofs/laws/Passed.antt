@@ -1,10 +1,9 @@
 -- Content in which no document ends, whatever element or end tag follows it.
 --     content_passed      content of names and such data is passed over
 --     whole_document      a document of such content ends where it ends, whatever follows
-use Rattle.std.specs.Prelude.{◌≡◌, refl, Bool, true, false, List, [], ◌∷◌, ℕ, zero, suc, eqb, length}
+use Rattle.std.specs.Prelude.{◌≡◌, refl, Bool, true, false, List, [], ◌∷◌, ℕ, zero, suc, eqb, length, Some}
 use Rattle.std.proofs.Common.{sym, ap, ◌∙◌, arith, eqb-true}
 use Rattle.std.proofs.lemmas.Bool.{false≢true}
-use Rattle.std.proofs.Math.Option.{some}
 use Rattle.octets.specs.Ascii.{ascii}
 use Rattle.octets.specs.Pick.{◌and◌, ◌or◌}
 use Rattle.octets.specs.laws.Pick.{and_both, and_no_left, eqb_apart, eqb_swap, pick_case}
@@ -160,15 +159,15 @@ declaration_passed r = tag_passed 63 (ascii "xml version=\"1.0\" encoding=\"utf-
 root_passed : (r : List ℕ) → Passed root_start r
 root_passed r = tag_passed 105 (ascii "calendar xmlns=\"urn:ietf:params:xml:ns:icalendar-2.0\">") r refl (unfold octets_compute in refl)
 
-close_ends : (r : List ℕ) → document_end ((end_tag (ascii "icalendar") ⊕ ascii "\n") ⊕ r) ≡ some (length (end_tag (ascii "icalendar") ⊕ ascii "\n"))
+close_ends : (r : List ℕ) → document_end ((end_tag (ascii "icalendar") ⊕ ascii "\n") ⊕ r) ≡ Some (length (end_tag (ascii "icalendar") ⊕ ascii "\n"))
 unfolding octets_compute document_end
 close_ends r = refl
 
-front_passed : (a s r : List ℕ) → Passed a (s ⊕ r) → document_end (s ⊕ r) ≡ some (length s) → document_end ((a ⊕ s) ⊕ r) ≡ some (length (a ⊕ s))
+front_passed : (a s r : List ℕ) → Passed a (s ⊕ r) → document_end (s ⊕ r) ≡ Some (length s) → document_end ((a ⊕ s) ⊕ r) ≡ Some (length (a ⊕ s))
 unfolding ahead
-front_passed a s r p e = ap document_end (append_regroup a s r) ∙ p ∙ ap (ahead (length a)) e ∙ ap some (sym (length_both a s))
+front_passed a s r p e = ap document_end (append_regroup a s r) ∙ p ∙ ap (ahead (length a)) e ∙ ap Some (sym (length_both a s))
 
-pub whole_document : (c : Content) (d : ℕ) (r : List ℕ) → is_writable c d ≡ true → data_in_front c true ≡ true → document_end (document_of (written c) ⊕ r) ≡ some (length (document_of (written c)))
+pub whole_document : (c : Content) (d : ℕ) (r : List ℕ) → is_writable c d ≡ true → data_in_front c true ≡ true → document_end (document_of (written c) ⊕ r) ≡ Some (length (document_of (written c)))
 whole_document c d r w h =
     front_passed declaration_line _ r (declaration_passed _)
     (front_passed root_start _ r (root_passed _)

@@ -3,12 +3,11 @@
 --     Searching            the invariant of the loop over a piece;   searching: its start, its turn, its ends
 --     reached_none, reached_open, reached_end    what a program keeps, from piece to piece and from end to end
 --     Going                the invariant of the loop over the ends in a piece;   going_start, going_end, going_open, going_over: its start, its turn, its ends
-use Rattle.std.specs.Prelude.{◌≡◌, refl, Bool, ℕ, zero, suc, ◌+◌, ◌-◌, ◌≤◌, ◌<◌, eqb, get_or}
+use Rattle.std.specs.Prelude.{◌≡◌, refl, Bool, ℕ, zero, suc, ◌+◌, ◌-◌, ◌≤◌, ◌<◌, eqb, get_or, Option, None, Some}
 use Rattle.std.proofs.Math.Path.{sym, ap}
 use Rattle.std.proofs.Common.{◌∙◌, arith, length-drop, drop_of_length-le, rules, eq-eqb, eqb-true}
 use Rattle.std.proofs.Math.Bool.{true, false}
 use mathlib.Core.List.{List, [], ◌∷◌, ◌++◌, append-nil, append_assoc}
-use Rattle.std.proofs.Math.Option.{Option, none, some}
 use Rattle.std.proofs.Math.ListN.{length, take, drop, length-take, take-append-drop}
 use Rattle.std.proofs.Math.Seq.{take-length}
 use Rattle.octets.specs.Ascii.{ascii}
@@ -66,14 +65,14 @@ front_passed (suc j) b r h e =
 -- ---- a byte more
 
 -- a document's end comes with the last byte
-pub turn_end : (j b : ℕ) (r : List ℕ) → j < 13 → further j b ≡ 13 → (j ≡ 12) × (document_end (take j document_close ⊕ (b ∷ r)) ≡ some 13)
+pub turn_end : (j b : ℕ) (r : List ℕ) → j < 13 → further j b ≡ 13 → (j ≡ 12) × (document_end (take j document_close ⊕ (b ∷ r)) ≡ Some 13)
 unfolding pick
 turn_end j b r h m = go (eqb b (get_or document_close j 0)) refl (eqb b 60) m
   where
-    go : (t : Bool) → eqb b (get_or document_close j 0) ≡ t → (u : Bool) → pick t (j + 1) (pick u 1 0) ≡ 13 → (j ≡ 12) × (document_end (take j document_close ⊕ (b ∷ r)) ≡ some 13)
+    go : (t : Bool) → eqb b (get_or document_close j 0) ≡ t → (u : Bool) → pick t (j + 1) (pick u 1 0) ≡ 13 → (j ≡ 12) × (document_end (take j document_close ⊕ (b ∷ r)) ≡ Some 13)
     go true e u m = let k : j ≡ 12 = omega arith in (k, last k (eqb-true b _ e))
       where
-        last : j ≡ 12 → b ≡ get_or document_close j 0 → document_end (take j document_close ⊕ (b ∷ r)) ≡ some 13
+        last : j ≡ 12 → b ≡ get_or document_close j 0 → document_end (take j document_close ⊕ (b ∷ r)) ≡ Some 13
         last k q = rw (q, k) (unfold octets_compute document_end in refl)
     go false e true m = absurd (omega arith)
     go false e false m = absurd (omega arith)
@@ -176,7 +175,7 @@ module _ (k : ℕ) (s : List ℕ) where
             ∙ t.left []
             ∙ ap (λ (x : List ℕ). ahead t.before (document_end (take j document_close ⊕ x))) (piece_next i h [])
             ∙ ap (ahead t.before) u.1
-            ∙ ap some (omega (arith, t.counts, u.0));
+            ∙ ap Some (omega (arith, t.counts, u.0));
       }
 
   pub searching_over : (i j : ℕ) → Searching k s i j → length s ≤ i → Opened k s j
@@ -212,12 +211,12 @@ take_more (suc i) n [] = rw (take_empty (suc i + n), take_empty n)
 take_more (suc i) n (x ∷ s) = let q : suc i + n ≡ suc (i + n) = omega arith in rw q (ap (λ (l : List ℕ). x ∷ l) (take_more i n s))
 
 -- part of document_close ends no document
-front_open : (j : ℕ) → j < 13 → document_end (take j document_close) ≡ none
+front_open : (j : ℕ) → j < 13 → document_end (take j document_close) ≡ None
 front_open j h = go (document_end (take j document_close)) refl
   where
-    go : (o : Option ℕ) → document_end (take j document_close) ≡ o → o ≡ none
-    go none e = refl
-    go (some n) e = let k = end_inside (take j document_close) n e in absurd (omega (arith, k.0, k.1, front_length j h))
+    go : (o : Option ℕ) → document_end (take j document_close) ≡ o → o ≡ None
+    go None e = refl
+    go (Some n) e = let k = end_inside (take j document_close) n e in absurd (omega (arith, k.0, k.1, front_length j h))
 
 pub reached_none : Reached [] 0 0 0
 unfolding joined ◌⊕◌ document_end
@@ -240,7 +239,7 @@ module _ {l : List ℕ} {k from at : ℕ} (t : Reached l k from at) where
   pub reached_open : (s : List ℕ) (j : ℕ) → Opened k s j → Reached (l ⊕ s) j from (at + length s)
   unfolding ahead
   reached_open s j o =
-      let e : document_end (t.left ⊕ s) ≡ none =
+      let e : document_end (t.left ⊕ s) ≡ None =
       t.next s
       ∙ ap (ahead t.before) (ap (λ (x : List ℕ). document_end (take k document_close ⊕ x)) (sym (append_none s)) ∙ o.left [] ∙ ap (ahead o.before) (ap document_end (append_none (take j document_close)) ∙ front_open j o.small)) in
       let p : joined t.whole ⊕ (t.left ⊕ s) ≡ l ⊕ s = sym (append_regroup (joined t.whole) t.left s) ∙ ap (λ (x : List ℕ). x ⊕ s) t.parts in
@@ -265,13 +264,13 @@ module _ {l : List ℕ} {k from at : ℕ} (t : Reached l k from at) where
   unfolding ahead
   end_whole s n o more =
       let z : length (take n s) ≡ n = omega (arith, length-take n s, o.inside) in
-      let g : document_end ((take k document_close ⊕ take n s) ⊕ drop n s) ≡ some (k + n) =
+      let g : document_end ((take k document_close ⊕ take n s) ⊕ drop n s) ≡ Some (k + n) =
       ap document_end (append_regroup (take k document_close) (take n s) (drop n s) ∙ ap (λ (x : List ℕ). take k document_close ⊕ x) (append_is (take n s) (drop n s) ∙ take-append-drop n s)) ∙ o.end in
       let m = end_shorter (take k document_close ⊕ take n s) (drop n s) (k + n) g (omega (arith, length_both (take k document_close) (take n s), z, front_length k t.small)) in
       ap document_end (append_regroup t.left (take n s) more)
       ∙ t.next (take n s ⊕ more)
       ∙ ap (ahead t.before) (ap document_end (sym (append_regroup (take k document_close) (take n s) more)) ∙ end_longer (take k document_close ⊕ take n s) more (k + n) m)
-      ∙ ap some (omega (arith, t.counts, length_both t.left (take n s), z))
+      ∙ ap Some (omega (arith, t.counts, length_both t.left (take n s), z))
 
   pub reached_end : (s : List ℕ) (n : ℕ) → Ended k s n → Reached (l ⊕ take n s) 0 (at + n) (at + n)
   unfolding document_end

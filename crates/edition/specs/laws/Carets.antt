@@ -7,12 +7,11 @@
 --     decode_without, encode_without   a byte that does not stand there
 --     encode_safe            under edition 1 neither LF nor a double quote is left
 --     decoded_other, decoded_letter, decoded_caret, decoded_last    a step of the decoding
-use Rattle.std.specs.Prelude.{◌≡◌, Bool, ℕ, suc, ◌+◌, ◌*◌, ◌≤◌, length}
+use Rattle.std.specs.Prelude.{◌≡◌, Bool, ℕ, suc, ◌+◌, ◌*◌, ◌≤◌, length, Some}
 use Rattle.std.proofs.Math.Path.{refl}
 use Rattle.std.proofs.Common.{ap, ◌∙◌, arith, eqb-true}
 use Rattle.std.proofs.Math.Bool.{true, false}
 use mathlib.Core.List.{List, [], ◌∷◌}
-use Rattle.std.proofs.Math.Option.{some}
 use Rattle.std.proofs.Math.Dec.{eqb}
 use Rattle.octets.specs.Pick.{pick, ◌or◌}
 use Rattle.octets.specs.laws.Pick.{pick_case, pick_second, or_neither}
@@ -26,7 +25,7 @@ use Rattle.edition.specs.Edition.{edition_of, edition_number, is_letter, meant, 
 use Rattle.edition.specs.declared.Edition.{Edition}
 use Rattle.edition.specs.declared.Edition.TheVariants.{Rfc5545, Rfc6868}
 
-pub number_back : (e : Edition) → edition_of (edition_number e) ≡ some e
+pub number_back : (e : Edition) → edition_of (edition_number e) ≡ Some e
 unfolding pick
 number_back Rfc5545 = refl
 number_back Rfc6868 = refl

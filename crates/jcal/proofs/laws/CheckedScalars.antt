@@ -2,7 +2,7 @@
 --     apart, no_scalar, scalar_no_space    a byte of a number or a literal is no other
 --     number_run, literal_run    the check goes on behind its bytes
 --     scalar_by    what a byte that begins one leads to;   opened: a level that is not too deep
-use Rattle.std.specs.Prelude.{◌≡◌, Bool, eqb, drop}
+use Rattle.std.specs.Prelude.{◌≡◌, Bool, eqb, drop, Option, None, Some}
 use Rattle.std.proofs.Math.Path.{refl}
 use Rattle.std.proofs.Common.{sym, ◌∙◌}
 use Rattle.std.proofs.Math.Bool.{true, false}
@@ -24,8 +24,6 @@ use Rattle.json_text.specs.declared.Number.TheVariants.{Minus, Zero, Int, Point,
 use Rattle.json_text.specs.declared.State.{State}
 use Rattle.json_text.specs.declared.State.TheVariants.{Expects, InLiteral, InNumber}
 use Rattle.json_text.specs.declared.Move.TheVariants.{To, Bad}
-use Rattle.json_text.specs.declared.Checked.{Checked}
-use Rattle.json_text.specs.declared.Checked.TheVariants.{Fine, At}
 use Rattle.jcal.proofs.laws.CheckedStrings.{not_fine, Goes, goes, choose, bad_not, to_state}
 
 -- ---- bytes
@@ -57,20 +55,20 @@ words_letters = (refl, refl, refl)
 
 -- the check goes on behind its bytes
 abbrev pub Behind : ℕ → List ℕ → List Container → Type 0
-Behind limit s cs = (at : ℕ) × (check (drop (span_len is_scalar s) s) limit at (Expects After) cs ≡ Fine)
+Behind limit s cs = (at : ℕ) × (check (drop (span_len is_scalar s) s) limit at (Expects After) cs ≡ None)
 
 module _ (limit : ℕ) where
-  after_scalar : {X : Type 0} {i : ℕ} {cs : List Container} {rest : State → List Container → Checked} (a : Around) (b : ℕ) → is_scalar b ≡ true → Goes (after a i b) limit i cs rest → X
+  after_scalar : {X : Type 0} {i : ℕ} {cs : List Container} {rest : State → List Container → Option ℕ} (a : Around) (b : ℕ) → is_scalar b ≡ true → Goes (after a i b) limit i cs rest → X
   after_scalar {X} {i} a b h g = choose (is_space b) _ _ g (λ e k. absurd (false≢true (sym (scalar_no_space b h) ∙ e))) (λ e k. by a k)
     where
-      by : {i : ℕ} {cs : List Container} {rest : State → List Container → Checked} (a : Around) → Goes (after_by a i b) limit i cs rest → X
+      by : {i : ℕ} {cs : List Container} {rest : State → List Container → Option ℕ} (a : Around) → Goes (after_by a i b) limit i cs rest → X
       by {i} Nothing k = bad_not i k
       by {i} Array k = choose (eqb b 44) _ _ k (λ e k. absurd (false≢true (sym (apart b 44 h no_scalar.4) ∙ e))) (λ e k. choose (eqb b 93) _ _ k (λ e k. absurd (false≢true (sym (apart b 93 h no_scalar.7) ∙ e))) (λ e k. bad_not i k))
       by {i} Object k = choose (eqb b 44) _ _ k (λ e k. absurd (false≢true (sym (apart b 44 h no_scalar.4) ∙ e))) (λ e k. choose (eqb b 125) _ _ k (λ e k. absurd (false≢true (sym (apart b 125 h no_scalar.9) ∙ e))) (λ e k. bad_not i k))
 
   -- a byte of it leads on in it
-  number_stays : {X : Type 0} {i : ℕ} {cs : List Container} {rest : State → List Container → Checked} (n : Number) (a : Around) (b : ℕ) → is_scalar b ≡ true → Goes (number n a i b) limit i cs rest →
-      ((m : Number) → rest (InNumber m) cs ≡ Fine → X) → X
+  number_stays : {X : Type 0} {i : ℕ} {cs : List Container} {rest : State → List Container → Option ℕ} (n : Number) (a : Around) (b : ℕ) → is_scalar b ≡ true → Goes (number n a i b) limit i cs rest →
+      ((m : Number) → rest (InNumber m) cs ≡ None → X) → X
   number_stays {X} {i} {cs} {rest} n a b h g f = by n g
     where
       digit : (m : Number) → Goes (pick (is_digit b) (To (InNumber m)) (Bad i)) limit i cs rest → X
@@ -93,7 +91,7 @@ module _ (limit : ℕ) where
       by Exp k = choose (is_digit b) _ _ k (λ e k. f Exp (to_state _ k)) (λ e k. after_scalar a b h k)
 
   -- another byte leads on where one behind a value does
-  number_ends : {i : ℕ} {cs : List Container} {rest : State → List Container → Checked} (n : Number) (a : Around) (b : ℕ) → is_scalar b ≡ false → Goes (number n a i b) limit i cs rest → Goes (after a i b) limit i cs rest
+  number_ends : {i : ℕ} {cs : List Container} {rest : State → List Container → Option ℕ} (n : Number) (a : Around) (b : ℕ) → is_scalar b ≡ false → Goes (number n a i b) limit i cs rest → Goes (after a i b) limit i cs rest
   unfolding ◌and◌
   number_ends {i} {cs} {rest} n a b h g = by n g
     where
@@ -127,7 +125,7 @@ module _ (limit : ℕ) where
       by Sign k = digit Exp k
       by Exp k = choose (is_digit b) _ _ k (λ e k. absurd (false≢true (sym no_digit ∙ e))) (λ e k. k)
 
-  number_over : (n : Number) (cs : List Container) (i : ℕ) → check [] limit i (InNumber n) cs ≡ Fine → check [] limit i (Expects After) cs ≡ Fine
+  number_over : (n : Number) (cs : List Container) (i : ℕ) → check [] limit i (InNumber n) cs ≡ None → check [] limit i (Expects After) cs ≡ None
   unfolding check
   number_over Minus cs i h = not_fine i h
   number_over Zero cs i h = h
@@ -138,22 +136,22 @@ module _ (limit : ℕ) where
   number_over Sign cs i h = not_fine i h
   number_over Exp cs i h = h
 
-  pub number_run : (s : List ℕ) (n : Number) (i : ℕ) (cs : List Container) → check s limit i (InNumber n) cs ≡ Fine → Behind limit s cs
+  pub number_run : (s : List ℕ) (n : Number) (i : ℕ) (cs : List Container) → check s limit i (InNumber n) cs ≡ None → Behind limit s cs
   unfolding check span_len pick
   number_run [] n i cs h = (i, number_over n cs i h)
   number_run (b ∷ s) n i cs h = go (is_scalar b) refl (λ m k. number_run s m (i + 1) cs k)
     where
-      go : (t : Bool) → is_scalar b ≡ t → ((m : Number) → check s limit (i + 1) (InNumber m) cs ≡ Fine → Behind limit s cs) → (at : ℕ) × (check (drop (pick t (suc (span_len is_scalar s)) 0) (b ∷ s)) limit at (Expects After) cs ≡ Fine)
+      go : (t : Bool) → is_scalar b ≡ t → ((m : Number) → check s limit (i + 1) (InNumber m) cs ≡ None → Behind limit s cs) → (at : ℕ) × (check (drop (pick t (suc (span_len is_scalar s)) 0) (b ∷ s)) limit at (Expects After) cs ≡ None)
       go true e ih = number_stays n (around cs) b e (goes b s limit i (InNumber n) cs h) ih
       go false e ih = (i, (number_ends n (around cs) b e (goes b s limit i (InNumber n) cs h)).fine)
 
   -- behind a value no such byte stands
-  after_stops : (s : List ℕ) (i : ℕ) (cs : List Container) → check s limit i (Expects After) cs ≡ Fine → span_len is_scalar s ≡ 0
+  after_stops : (s : List ℕ) (i : ℕ) (cs : List Container) → check s limit i (Expects After) cs ≡ None → span_len is_scalar s ≡ 0
   unfolding span_len
   after_stops [] i cs h = refl
   after_stops (b ∷ s) i cs h = pick_case (λ (n : ℕ). n ≡ 0) (is_scalar b) _ _ (λ e. after_scalar (around cs) b e (goes b s limit i (Expects After) cs h)) (λ e. refl)
 
-  pub literal_run : (n w : ℕ) → letters n w ≡ true → (s : List ℕ) (i : ℕ) (cs : List Container) → check s limit i (InLiteral w) cs ≡ Fine → Behind limit s cs
+  pub literal_run : (n w : ℕ) → letters n w ≡ true → (s : List ℕ) (i : ℕ) (cs : List Container) → check s limit i (InLiteral w) cs ≡ None → Behind limit s cs
   unfolding check letters span_len pick
   literal_run zero w l s i cs h = absurd (false≢true l)
   literal_run (suc n) w l [] i cs h = not_fine i h
@@ -169,8 +167,8 @@ module _ (limit : ℕ) where
 
   -- ---- where one begins
 
-  pub scalar_by : {X : Type 0} (i b : ℕ) {cs : List Container} {rest : State → List Container → Checked} → (is_scalar b ≡ true → (m : Number) → rest (InNumber m) cs ≡ Fine → X) →
-      (is_scalar b ≡ true → (w : ℕ) → letters 4 w ≡ true → rest (InLiteral w) cs ≡ Fine → X) → Goes (scalar i b) limit i cs rest → X
+  pub scalar_by : {X : Type 0} (i b : ℕ) {cs : List Container} {rest : State → List Container → Option ℕ} → (is_scalar b ≡ true → (m : Number) → rest (InNumber m) cs ≡ None → X) →
+      (is_scalar b ≡ true → (w : ℕ) → letters 4 w ≡ true → rest (InLiteral w) cs ≡ None → X) → Goes (scalar i b) limit i cs rest → X
   unfolding ◌and◌ ◌or◌
   scalar_by i b f g k =
       choose (eqb b minus) _ _ k (λ e k. f (eqb_passes is_scalar minus b refl e) Minus (to_state _ k)) (λ e k.
@@ -183,7 +181,7 @@ module _ (limit : ℕ) where
 
 -- ---- a level that is not too deep
 
-pub opened : (t : Bool) (v : Checked) (i : ℕ) → pick t v (At i) ≡ Fine → v ≡ Fine
+pub opened : (t : Bool) (v : Option ℕ) (i : ℕ) → pick t v (Some i) ≡ None → v ≡ None
 unfolding pick
 opened true v i h = h
 opened false v i h = not_fine i h

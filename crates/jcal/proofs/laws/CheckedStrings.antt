@@ -2,13 +2,12 @@
 --     Goes, choose, bad_not  what a move that is not refused can be
 --     Left                 what is left behind a token: the check goes on there, and a character begins
 --     string_text          the characters of a string, and what is left behind it
-use Rattle.std.specs.Prelude.{◌≡◌, Bool, ltb, leb}
+use Rattle.std.specs.Prelude.{◌≡◌, Bool, ltb, leb, None, Option, Some}
 use Rattle.std.proofs.Math.Path.{refl, sym, ap, subst}
 use Rattle.std.proofs.Common.{◌∙◌, drop-drop}
 use Rattle.std.proofs.Math.Bool.{true, false}
 use Rattle.std.proofs.lemmas.Bool.{false≢true}
 use mathlib.Core.List.{List, [], ◌∷◌}
-use Rattle.std.proofs.Math.Option.{none}
 use Prim.Native.Nat.{ℕ, zero, suc, ◌+◌, ◌-◌, ◌≤◌, ◌<◌}
 use native.Mathlib.Omega.{arith}
 use Rattle.std.proofs.Math.Dec.{eqb}
@@ -38,27 +37,25 @@ use Rattle.json_text.specs.declared.State.{State}
 use Rattle.json_text.specs.declared.State.TheVariants.{Expects, InString}
 use Rattle.json_text.specs.declared.Move.{Move}
 use Rattle.json_text.specs.declared.Move.TheVariants.{To, Bad}
-use Rattle.json_text.specs.declared.Checked.{Checked}
-use Rattle.json_text.specs.declared.Checked.TheVariants.{Fine, At}
 
 -- ---- what is not refused
 
-abbrev is_fine : Checked → Bool
-is_fine Fine = true
-is_fine (At p) = false
+abbrev is_fine : Option ℕ → Bool
+is_fine None = true
+is_fine (Some p) = false
 
-pub not_fine : {X : Type 0} (p : ℕ) → At p ≡ Fine → X
+pub not_fine : {X : Type 0} (p : ℕ) → Some p ≡ None → X
 not_fine p e = absurd (false≢true (ap is_fine e))
 
 -- what a move leads to is not refused, `rest` being the check of the bytes behind it
-pub record Goes (m : Move) (limit i : ℕ) (cs : List Container) (rest : State → List Container → Checked) : Type 0 where
-  pub fine : followed m limit i cs rest ≡ Fine
+pub record Goes (m : Move) (limit i : ℕ) (cs : List Container) (rest : State → List Container → Option ℕ) : Type 0 where
+  pub fine : followed m limit i cs rest ≡ None
 
-pub goes : (b : ℕ) (s : List ℕ) (limit i : ℕ) (st : State) (cs : List Container) → check (b ∷ s) limit i st cs ≡ Fine → Goes (move st (around cs) i b) limit i cs (check s limit (i + 1))
+pub goes : (b : ℕ) (s : List ℕ) (limit i : ℕ) (st : State) (cs : List Container) → check (b ∷ s) limit i st cs ≡ None → Goes (move st (around cs) i b) limit i cs (check s limit (i + 1))
 unfolding check
 goes b s limit i st cs h = record { fine = h }
 
-module _ {limit i : ℕ} {cs : List Container} {rest : State → List Container → Checked} where
+module _ {limit i : ℕ} {cs : List Container} {rest : State → List Container → Option ℕ} where
   pub choose : {X : Type 0} (t : Bool) (a b : Move) → Goes (pick t a b) limit i cs rest → (t ≡ true → Goes a limit i cs rest → X) → (t ≡ false → Goes b limit i cs rest → X) → X
   unfolding pick
   choose true a b h f g = f refl h
@@ -68,14 +65,14 @@ module _ {limit i : ℕ} {cs : List Container} {rest : State → List Container 
   unfolding followed
   bad_not p h = not_fine p h.fine
 
-  pub to_state : (st : State) → Goes (To st) limit i cs rest → rest st cs ≡ Fine
+  pub to_state : (st : State) → Goes (To st) limit i cs rest → rest st cs ≡ None
   unfolding followed
   to_state st h = h.fine
 
 -- ---- bytes
 
 -- behind a byte of ASCII a character begins
-pub past_ascii : (b : ℕ) (s : List ℕ) → is_ascii b ≡ true → first_bad (b ∷ s) ≡ none → first_bad s ≡ none
+pub past_ascii : (b : ℕ) (s : List ℕ) → is_ascii b ≡ true → first_bad (b ∷ s) ≡ None → first_bad s ≡ None
 past_ascii b s a h = good_shifted s 0 (0 + 1) 0 (sym (ascii_first b 0 s a) ∙ h)
 
 -- a hexadecimal digit
@@ -200,15 +197,15 @@ module _ (limit : ℕ) where
   pub record Left (s : List ℕ) (cs : List Container) : Type 0 where
     pub at : ℕ
     pub expect : Expect
-    pub fine : check s limit at (Expects expect) cs ≡ Fine
-    pub good : first_bad s ≡ none
+    pub fine : check s limit at (Expects expect) cs ≡ None
+    pub good : first_bad s ≡ None
 
   -- ---- hexadecimal digits
 
   -- k digits behind the next one, those before worth v: what the code unit leads to is not refused
   record Digits (F : ℕ → Move) (k v : ℕ) (r : List ℕ) (cs : List Container) : Type 0 where
     small : hex_worth (suc k) v r < 0x10000
-    good : first_bad r ≡ none → first_bad (drop (suc k) r) ≡ none
+    good : first_bad r ≡ None → first_bad (drop (suc k) r) ≡ None
     at : ℕ
     next : Goes (F (hex_worth (suc k) v r)) limit at cs (check (drop (suc k) r) limit (at + 1))
 
@@ -218,8 +215,8 @@ module _ (limit : ℕ) where
   -- of a state T k v, and what a code unit leads to
   module _ (T : ℕ → ℕ → State) (F : ℕ → Move) (bad : ℕ → ℕ)
       (step : (k v : ℕ) (a : Around) (i b : ℕ) → move (T k v) a i b ≡ pick (eqb (hex_value b) 16) (Bad (bad i)) (pick (eqb k 0) (F (grown v (hex_value b))) (To (T (k - 1) (grown v (hex_value b))))))
-      (over : (k v l : ℕ) (a : Around) → end (T k v) a l ≡ Fine → ⊥) where
-    digits_run : (k v : ℕ) (r : List ℕ) (i : ℕ) (cs : List Container) → check r limit i (T k v) cs ≡ Fine → Digits F k v r cs
+      (over : (k v l : ℕ) (a : Around) → end (T k v) a l ≡ None → ⊥) where
+    digits_run : (k v : ℕ) (r : List ℕ) (i : ℕ) (cs : List Container) → check r limit i (T k v) cs ≡ None → Digits F k v r cs
     unfolding check hex_worth pick
     digits_run k v [] i cs h = absurd (over k v i (around cs) h)
     digits_run zero v (b ∷ r) i cs h =
@@ -238,12 +235,12 @@ module _ (limit : ℕ) where
 
   -- of what is left, behind k bytes more that belong to a character, with the bytes u of this string before it
   pub record Quoted (s : List ℕ) (k : ℕ) (u : List ℕ) (cs : List Container) : Type 0 where
-    pub good : first_bad (u ⊕ characters_from s k) ≡ none
+    pub good : first_bad (u ⊕ characters_from s k) ≡ None
     pub plain : holds 13 (characters_from s k) ≡ false
     pub left : Left (drop (length_from s k) s) cs
 
   -- a character of the bytes w, of which k bytes of the text follow
-  char_quoted : (b : ℕ) (s w : List ℕ) (k : ℕ) (u : List ℕ) (cs : List Container) → char_at b s ≡ char w k → first_bad u ≡ none → first_bad w ≡ none → holds 13 w ≡ false → Quoted s k [] cs → Quoted (b ∷ s) 0 u cs
+  char_quoted : (b : ℕ) (s w : List ℕ) (k : ℕ) (u : List ℕ) (cs : List Container) → char_at b s ≡ char w k → first_bad u ≡ None → first_bad w ≡ None → holds 13 w ≡ false → Quoted s k [] cs → Quoted (b ∷ s) 0 u cs
   unfolding characters_from characters_by length_from length_by
   char_quoted b s w k u cs e g h p q = record {
     good = rw e (good_append u (w ⊕ characters_from s k) g (good_append w (characters_from s k) h (rw (append_empty (characters_from s k)) at q.good)));
@@ -261,7 +258,7 @@ module _ (limit : ℕ) where
   }
 
   -- the quotation mark that closes it
-  close_quoted : (s u : List ℕ) (cs : List Container) → first_bad (u ⊕ (34 ∷ s)) ≡ none → (i : ℕ) (e : Expect) → check s limit i (Expects e) cs ≡ Fine → Quoted (34 ∷ s) 0 u cs
+  close_quoted : (s u : List ℕ) (cs : List Container) → first_bad (u ⊕ (34 ∷ s)) ≡ None → (i : ℕ) (e : Expect) → check s limit i (Expects e) cs ≡ None → Quoted (34 ∷ s) 0 u cs
   unfolding characters_from characters_by length_from length_by utf8_compute
   close_quoted s u cs h i e c =
       let g = good_split u (34 ∷ s) refl h in
@@ -269,10 +266,10 @@ module _ (limit : ℕ) where
 
   -- what is known of the rest of a text
   abbrev Strings : List ℕ → Type 0
-  Strings s = (k i : ℕ) (u : List ℕ) (n : Bool) (cs : List Container) → first_bad (u ⊕ drop k s) ≡ none → check (drop k s) limit i (InString n Chars) cs ≡ Fine → Quoted s k u cs
+  Strings s = (k i : ℕ) (u : List ℕ) (n : Bool) (cs : List Container) → first_bad (u ⊕ drop k s) ≡ None → check (drop k s) limit i (InString n Chars) cs ≡ None → Quoted s k u cs
 
-  module _ (u : List ℕ) (n : Bool) (cs : List Container) (g : first_bad u ≡ none) where
-    letter_quoted : (d : ℕ) (r : List ℕ) (i : ℕ) → Strings (d ∷ r) → eqb d letter_u ≡ false → names_good d ≡ true → first_bad (d ∷ r) ≡ none → check r limit i (InString n Chars) cs ≡ Fine → Quoted (92 ∷ d ∷ r) 0 u cs
+  module _ (u : List ℕ) (n : Bool) (cs : List Container) (g : first_bad u ≡ None) where
+    letter_quoted : (d : ℕ) (r : List ℕ) (i : ℕ) → Strings (d ∷ r) → eqb d letter_u ≡ false → names_good d ≡ true → first_bad (d ∷ r) ≡ None → check r limit i (InString n Chars) cs ≡ None → Quoted (92 ∷ d ∷ r) 0 u cs
     unfolding escaped pick
     letter_quoted d r i ih e l h c =
         let w = letter_named d l in
@@ -281,16 +278,16 @@ module _ (limit : ℕ) where
         (ih 1 i [] n cs (rw (append_empty r) (past_ascii d r (letter_ascii d l) h)) c)
 
     -- a code unit of its own
-    unit_quoted : (r : List ℕ) (i : ℕ) → Strings (117 ∷ r) → hex_worth 4 0 r < 0x10000 → is_high (hex_worth 4 0 r) ≡ false → named_bad (hex_worth 4 0 r) ≡ false → first_bad (drop 4 r) ≡ none →
-        check (drop 4 r) limit i (InString n Chars) cs ≡ Fine → Quoted (92 ∷ 117 ∷ r) 0 u cs
+    unit_quoted : (r : List ℕ) (i : ℕ) → Strings (117 ∷ r) → hex_worth 4 0 r < 0x10000 → is_high (hex_worth 4 0 r) ≡ false → named_bad (hex_worth 4 0 r) ≡ false → first_bad (drop 4 r) ≡ None →
+        check (drop 4 r) limit i (InString n Chars) cs ≡ None → Quoted (92 ∷ 117 ∷ r) 0 u cs
     unfolding escaped pick
     unit_quoted r i ih l a b h c =
         let w = unit_character (hex_worth 4 0 r) a b l in
         char_quoted 92 (117 ∷ r) (spell (hex_worth 4 0 r)) 5 u cs (rw (a, lt-ltb (hex_worth 4 0 r) 0x10000 l)) g (spell_good _ w) (spell_plain _ w) (ih 5 i [] n cs (rw (append_empty (drop 4 r)) h) c)
 
     -- a high surrogate and a low one, r being behind `\u` of the first, t behind that of the second
-    pair_quoted : (r t : List ℕ) (i : ℕ) → Strings (117 ∷ r) → drop 6 r ≡ t → is_high (hex_worth 4 0 r) ≡ true → is_low (hex_worth 4 0 t) ≡ true → first_bad (drop 4 t) ≡ none →
-        check (drop 4 t) limit i (InString n Chars) cs ≡ Fine → Quoted (92 ∷ 117 ∷ r) 0 u cs
+    pair_quoted : (r t : List ℕ) (i : ℕ) → Strings (117 ∷ r) → drop 6 r ≡ t → is_high (hex_worth 4 0 r) ≡ true → is_low (hex_worth 4 0 t) ≡ true → first_bad (drop 4 t) ≡ None →
+        check (drop 4 t) limit i (InString n Chars) cs ≡ None → Quoted (92 ∷ 117 ∷ r) 0 u cs
     unfolding escaped pick
     pair_quoted r t i ih e a b h c =
         let w = pair_character (hex_worth 4 0 r) (hex_worth 4 0 t) a b in
@@ -299,44 +296,44 @@ module _ (limit : ℕ) where
         (ih 11 i [] n cs (rw (append_empty (drop 10 r), z) h) (rw z c))
 
     -- behind a high surrogate, whose escape is at `from`
-    high_quoted : (r : List ℕ) (from i : ℕ) → Strings (117 ∷ r) → is_high (hex_worth 4 0 r) ≡ true → first_bad (drop 4 r) ≡ none → check (drop 4 r) limit i (InString n (High from)) cs ≡ Fine → Quoted (92 ∷ 117 ∷ r) 0 u cs
+    high_quoted : (r : List ℕ) (from i : ℕ) → Strings (117 ∷ r) → is_high (hex_worth 4 0 r) ≡ true → first_bad (drop 4 r) ≡ None → check (drop 4 r) limit i (InString n (High from)) cs ≡ None → Quoted (92 ∷ 117 ∷ r) 0 u cs
     unfolding check utf8_compute
     high_quoted r from i ih a h c = first (drop 4 r) refl h c
       where
-        second : (t : List ℕ) (j : ℕ) → drop 6 r ≡ t → first_bad t ≡ none → check t limit j (InString n (Low from 3 0)) cs ≡ Fine → Quoted (92 ∷ 117 ∷ r) 0 u cs
+        second : (t : List ℕ) (j : ℕ) → drop 6 r ≡ t → first_bad t ≡ None → check t limit j (InString n (Low from 3 0)) cs ≡ None → Quoted (92 ∷ 117 ∷ r) 0 u cs
         second t j e h c =
             let q = digits_run (λ k v. InString n (Low from k v)) (low_pair n from) (λ i. from) (λ k v a i b. refl) (λ k v l a e. not_fine from e) 3 0 t j cs c in
             choose (is_low (hex_worth 4 0 t)) _ _ q.next (λ b k. pair_quoted r t (q.at + 1) ih e a b (q.good h) (to_state _ k)) (λ b k. bad_not from k)
 
-        letter : (t : List ℕ) (j : ℕ) → drop 5 r ≡ t → first_bad t ≡ none → check t limit j (InString n (HighEscape from)) cs ≡ Fine → Quoted (92 ∷ 117 ∷ r) 0 u cs
+        letter : (t : List ℕ) (j : ℕ) → drop 5 r ≡ t → first_bad t ≡ None → check t limit j (InString n (HighEscape from)) cs ≡ None → Quoted (92 ∷ 117 ∷ r) 0 u cs
         letter [] j e h c = not_fine from c
         letter (y ∷ t) j e h c =
             choose (eqb y letter_u) _ _ (goes y t limit j (InString n (HighEscape from)) cs c)
-            (λ b k. second t (j + 1) (sym (drop-drop 1 5 r) ∙ ap (drop 1) e) (past_ascii 117 t refl (subst (λ (x : ℕ). first_bad (x ∷ t) ≡ none) (eqb-true y 117 b) h)) (to_state _ k))
+            (λ b k. second t (j + 1) (sym (drop-drop 1 5 r) ∙ ap (drop 1) e) (past_ascii 117 t refl (subst (λ (x : ℕ). first_bad (x ∷ t) ≡ None) (eqb-true y 117 b) h)) (to_state _ k))
             (λ b k. bad_not from k)
 
-        first : (t : List ℕ) → drop 4 r ≡ t → first_bad t ≡ none → check t limit i (InString n (High from)) cs ≡ Fine → Quoted (92 ∷ 117 ∷ r) 0 u cs
+        first : (t : List ℕ) → drop 4 r ≡ t → first_bad t ≡ None → check t limit i (InString n (High from)) cs ≡ None → Quoted (92 ∷ 117 ∷ r) 0 u cs
         first [] e h c = not_fine from c
         first (x ∷ t) e h c =
             choose (eqb x 92) _ _ (goes x t limit i (InString n (High from)) cs c)
-            (λ b k. letter t (i + 1) (sym (drop-drop 1 4 r) ∙ ap (drop 1) e) (past_ascii 92 t refl (subst (λ (x : ℕ). first_bad (x ∷ t) ≡ none) (eqb-true x 92 b) h)) (to_state _ k))
+            (λ b k. letter t (i + 1) (sym (drop-drop 1 4 r) ∙ ap (drop 1) e) (past_ascii 92 t refl (subst (λ (x : ℕ). first_bad (x ∷ t) ≡ None) (eqb-true x 92 b) h)) (to_state _ k))
             (λ b k. bad_not from k)
 
     -- behind `\u`
-    hex_quoted : (r : List ℕ) (from i : ℕ) → Strings (117 ∷ r) → first_bad r ≡ none → check r limit i (InString n (Hex from 3 0)) cs ≡ Fine → Quoted (92 ∷ 117 ∷ r) 0 u cs
+    hex_quoted : (r : List ℕ) (from i : ℕ) → Strings (117 ∷ r) → first_bad r ≡ None → check r limit i (InString n (Hex from 3 0)) cs ≡ None → Quoted (92 ∷ 117 ∷ r) 0 u cs
     hex_quoted r from i ih h c =
         let q = digits_run (λ k v. InString n (Hex from k v)) (named n from) (λ i. i) (λ k v a i b. refl) (λ k v l a e. not_fine l e) 3 0 r i cs c in
         choose (is_high (hex_worth 4 0 r)) _ _ q.next (λ a k. high_quoted r from (q.at + 1) ih a (q.good h) (to_state _ k))
         (λ a k. choose (named_bad (hex_worth 4 0 r)) _ _ k (λ b k. bad_not from k) (λ b k. unit_quoted r (q.at + 1) ih q.small a b (q.good h) (to_state _ k)))
 
-    escape_quoted : (s : List ℕ) (from i : ℕ) → Strings s → first_bad s ≡ none → check s limit i (InString n (Escape from)) cs ≡ Fine → Quoted (92 ∷ s) 0 u cs
+    escape_quoted : (s : List ℕ) (from i : ℕ) → Strings s → first_bad s ≡ None → check s limit i (InString n (Escape from)) cs ≡ None → Quoted (92 ∷ s) 0 u cs
     unfolding check utf8_compute
     escape_quoted [] from i ih h c = not_fine i c
     escape_quoted (d ∷ r) from i ih h c =
         choose (eqb d letter_u) _ _ (goes d r limit i (InString n (Escape from)) cs c)
         (λ e k.
         let z = eqb-true d 117 e in
-        subst (λ (x : ℕ). Quoted (92 ∷ x ∷ r) 0 u cs) (sym z) (hex_quoted r from (i + 1) (subst (λ (x : ℕ). Strings (x ∷ r)) z ih) (past_ascii 117 r refl (subst (λ (x : ℕ). first_bad (x ∷ r) ≡ none) z h)) (to_state _ k)))
+        subst (λ (x : ℕ). Quoted (92 ∷ x ∷ r) 0 u cs) (sym z) (hex_quoted r from (i + 1) (subst (λ (x : ℕ). Strings (x ∷ r)) z ih) (past_ascii 117 r refl (subst (λ (x : ℕ). first_bad (x ∷ r) ≡ None) z h)) (to_state _ k)))
         (λ e k. choose (names_good d) _ _ k (λ l k. letter_quoted d r (i + 1) ih e l h (to_state _ k)) (λ l k. choose (names_bad d) _ _ k (λ b k. bad_not from k) (λ b k. bad_not i k)))
 
   pub string_text : (s : List ℕ) → Strings s
@@ -348,13 +345,13 @@ module _ (limit : ℕ) where
       choose (eqb b 34) _ _ (goes b s limit i (InString n Chars) cs c)
       (λ e k.
       let z = eqb-true b 34 e in
-      let g = subst (λ (x : ℕ). first_bad (u ⊕ (x ∷ s)) ≡ none) z h in
+      let g = subst (λ (x : ℕ). first_bad (u ⊕ (x ∷ s)) ≡ None) z h in
       subst (λ (x : ℕ). Quoted (x ∷ s) 0 u cs) (sym z)
       (choose n _ _ k (λ m k. close_quoted s u cs g (i + 1) Colon (to_state _ k)) (λ m k. close_quoted s u cs g (i + 1) After (to_state _ k))))
       (λ q k. choose (eqb b 92) _ _ k
       (λ e k.
       let z = eqb-true b 92 e in
-      let g = good_split u (92 ∷ s) refl (subst (λ (x : ℕ). first_bad (u ⊕ (x ∷ s)) ≡ none) z h) in
+      let g = good_split u (92 ∷ s) refl (subst (λ (x : ℕ). first_bad (u ⊕ (x ∷ s)) ≡ None) z h) in
       subst (λ (x : ℕ). Quoted (x ∷ s) 0 u cs) (sym z) (escape_quoted u n cs g.0 s i (i + 1) (string_text s) (past_ascii 92 s refl g.1) (to_state _ k)))
       (λ e k. choose (ltb b 0x20) _ _ k (λ l k. bad_not i k)
       (λ l k.

@@ -1,8 +1,7 @@
 -- Components read from arrays that are not refused, and whose strings are text, are valid (RFC 7265, sections 3.2 and 3.3).
 --     components_accepted    the components that elements state
-use Rattle.std.specs.Prelude.{◌≡◌, refl, Bool, true, not, List, [], ◌∷◌, map, ℕ, zero, suc, ◌-◌, ltb}
+use Rattle.std.specs.Prelude.{◌≡◌, refl, Bool, true, not, List, [], ◌∷◌, map, ℕ, zero, suc, ◌-◌, ltb, Option, None, Some}
 use Rattle.std.proofs.Common.{sym, ap, ◌∙◌}
-use Rattle.std.proofs.Math.Option.{Option, none, some}
 use Rattle.octets.specs.Pick.{◌and◌}
 use Rattle.octets.specs.laws.Pick.{and_both, and_yes}
 use Rattle.octets.specs.Class.{upper}
@@ -28,9 +27,9 @@ use Rattle.jcal.proofs.laws.ValuesAccepted.{elements_textual, array_textual}
 use Rattle.jcal.proofs.laws.ParametersAccepted.{good_kept}
 use Rattle.jcal.proofs.laws.PropertyAccepted.{past_fault, last_fault, nth_textual, passed_name, property_accepted}
 
-at-fine : (p : ℕ) (o : Option Refusal) → at p o ≡ fine → o ≡ none
-at-fine p none h = refl
-at-fine p (some r) h = refused_not r p h
+at-fine : (p : ℕ) (o : Option Refusal) → at p o ≡ fine → o ≡ None
+at-fine p None h = refl
+at-fine p (Some r) h = refused_not r p h
 
 -- ---- properties
 
@@ -43,8 +42,8 @@ properties_accepted ed k (v ∷ vs) c h =
     and_yes _ _ (go (as_array v) refl b.0 a.0) (properties_accepted ed k vs b.1 a.1)
   where
     go : (o : Option (List Json)) → as_array v ≡ o → is_textual v ≡ true → property_verdict ed k v o ≡ fine → is_valid_property ed k (property_of k (read_or [] o)) ≡ true
-    go none e c h = refused_not FRAME (place_of v) h
-    go (some xs) e c h = property_accepted ed k xs (array_textual v xs c e) (at-fine (place_of v) (property_fault ed k xs) h)
+    go None e c h = refused_not FRAME (place_of v) h
+    go (Some xs) e c h = property_accepted ed k xs (array_textual v xs c e) (at-fine (place_of v) (property_fault ed k xs) h)
 
 -- ---- one component
 
@@ -70,8 +69,8 @@ unfolding read_or every
 arrays_textual vs c = go (property_arrays vs) refl
   where
     go : (o : Option (List Json)) → property_arrays vs ≡ o → every is_textual (read_or [] o) ≡ true
-    go none e = refl
-    go (some xs) e = let a = and_then-some (nth 1 vs) as_array xs e in array_textual a.0 xs (nth_textual 1 vs a.0 c a.1) a.2
+    go None e = refl
+    go (Some xs) e = let a = and_then-some (nth 1 vs) as_array xs e in array_textual a.0 xs (nth_textual 1 vs a.0 c a.1) a.2
 
 -- a component's array with no fault of its own
 record Sound (may : List ℕ → Bool) (l : ℕ) (vs : List Json) : Type 0 where
@@ -79,7 +78,7 @@ record Sound (may : List ℕ → Bool) (l : ℕ) (vs : List Json) : Type 0 where
   named : may (component_name vs) ≡ true
   level : ltb 0 l ≡ true
 
-fault_sound : (may : List ℕ → Bool) (l : ℕ) (vs : List Json) → component_fault may l vs ≡ none → Sound may l vs
+fault_sound : (may : List ℕ → Bool) (l : ℕ) (vs : List Json) → component_fault may l vs ≡ None → Sound may l vs
 unfolding component_fault read_or
 fault_sound may l vs h =
     let a = past_fault (passes is_bad_name (name_in vs)) NAME _ h in

@@ -1,8 +1,7 @@
 -- The components of a valid calendar are read back from its JSON value, which has no fault (RFC 7265, sections 3.2 and 3.3).
 --     tree_back, tree_fine    of the whole value
-use Rattle.std.specs.Prelude.{◌≡◌, refl, Bool, true, false, not, List, [], ◌∷◌, map, ℕ, ◌-◌, ltb}
+use Rattle.std.specs.Prelude.{◌≡◌, refl, Bool, true, false, not, List, [], ◌∷◌, map, ℕ, ◌-◌, ltb, None}
 use Rattle.std.proofs.lemmas.Bool.{false≢true}
-use Rattle.std.proofs.Math.Option.{none}
 use Rattle.octets.specs.Pick.{pick, ◌and◌}
 use Rattle.octets.specs.Class.{lower}
 use Rattle.octets.specs.Words.{is_empty}
@@ -57,7 +56,7 @@ module _ (ed : Edition) (n : List ℕ) (ps : List Property) (inner : Components)
   unfolding element_list and_then read_or
   properties_there = rw (element_list_lem (map property_tree ps), kept_back n kept) (properties_back ed n ps h)
 
-  no_fault : (may : List ℕ → Bool) (l : ℕ) → may n ≡ true → ltb 0 l ≡ true → component_fault may l (element_list (parts n ps inner)) ≡ none
+  no_fault : (may : List ℕ → Bool) (l : ℕ) → may n ≡ true → ltb 0 l ≡ true → component_fault may l (element_list (parts n ps inner)) ≡ None
   unfolding component_fault element_list and_then is_read read_or pick ◌and◌
   no_fault may l o e = rw (good_name n kept, kept_back n kept, o, e)
 

@@ -1,8 +1,7 @@
 -- An INTEGER that is written is read back by its value.
 --     number_back
-use Rattle.std.specs.Prelude.{◌≡◌, refl, Bool, true, false, List, [], ◌∷◌, ℕ, ◌*◌, ◌^◌, ◌≤◌, ◌<◌, eqb, leb}
+use Rattle.std.specs.Prelude.{◌≡◌, refl, Bool, true, false, List, [], ◌∷◌, ℕ, ◌*◌, ◌^◌, ◌≤◌, ◌<◌, eqb, leb, Some}
 use Rattle.std.proofs.Common.{sym, ap, ◌∙◌, arith, eqb-true, lt-ltb, leb-true}
-use Rattle.std.proofs.Math.Option.{some}
 use Rattle.octets.specs.Pick.{pick, ◌and◌, ◌or◌, within}
 use Rattle.octets.specs.laws.Pick.{and_both, or_left, eqb_apart}
 use Rattle.octets.specs.laws.Append.{append_none}
@@ -40,13 +39,13 @@ digit_no_e : (b : ℕ) → is_digit b ≡ true → is_e b ≡ false
 unfolding ◌and◌ ◌or◌
 digit_no_e b h = rw (eqb_apart is_digit b 101 h refl, eqb_apart is_digit b 69 h refl)
 
-raised_none : (n : ℕ) → raised n 0 ≡ some n
+raised_none : (n : ℕ) → raised n 0 ≡ Some n
 unfolding pick
 raised_none n = go (eqb n 0) refl
   where
-    go : (t : Bool) → eqb n 0 ≡ t → pick t (some 0) (some (n * 1)) ≡ some n
-    go true e = ap some (sym (eqb-true n 0 e))
-    go false e = ap some (omega arith)
+    go : (t : Bool) → eqb n 0 ≡ t → pick t (Some 0) (Some (n * 1)) ≡ Some n
+    go true e = ap Some (sym (eqb-true n 0 e))
+    go false e = ap Some (omega arith)
 
 module _ (d : List ℕ) (h : all_of is_digit d ≡ true) where
   plain_e : (up_to is_e d ≡ d) × (past is_e d ≡ [])
@@ -74,7 +73,7 @@ minus_plain : is_plain 45 ≡ true
 unfolding is_plain ◌and◌ ◌or◌
 minus_plain = refl
 
-pub number_back : (w : Whole) → is_integer w ≡ true → read_number (write_integer w) ≡ some w
+pub number_back : (w : Whole) → is_integer w ≡ true → read_number (write_integer w) ≡ Some w
 unfolding pick ◌and◌
 number_back w h =
     plain_number (digits 9 w.magnitude) (digits_all 9 w.magnitude) (write_integer w) (whole_rest w)
@@ -82,7 +81,7 @@ number_back w h =
     ∙ rw (whole_minus w) (go w.negative w.magnitude h)
   where
     go : (m : Bool) (n : ℕ) → pick m (within 1 2147483648 n) (leb n 2147483647) ≡ true →
-        provided (leb (value 0 (digits 9 n)) (most m)) (integer_of m (value 0 (digits 9 n))) ≡ some (record { negative = m; magnitude = n })
+        provided (leb (value 0 (digits 9 n)) (most m)) (integer_of m (value 0 (digits 9 n))) ≡ Some (record { negative = m; magnitude = n })
     go true n k =
         let p = and_both (leb 1 n) (leb n 2147483648) k in
         let l : n ≤ 2147483648 = leb-true n 2147483648 p.1 in

@@ -1,9 +1,8 @@
 -- A calendar that is read from jCal is valid (RFC 7265).
 --     jcal_accepted    what is read is valid
 --     jcal_again       and is read again from its own jCal, where that is within the input limit
-use Rattle.std.specs.Prelude.{◌≡◌, refl, Bool, true, false, List, ℕ, ◌≤◌, leb, length}
+use Rattle.std.specs.Prelude.{◌≡◌, refl, Bool, true, false, List, ℕ, ◌≤◌, leb, length, Option, None, Some}
 use Rattle.std.proofs.lemmas.Bool.{false≢true}
-use Rattle.std.proofs.Math.Option.{Option, none, some}
 use Rattle.std.proofs.Common.{arith}
 use Rattle.octets.specs.Pick.{pick}
 use Rattle.octets.specs.laws.Pick.{and_yes}
@@ -21,8 +20,6 @@ use Rattle.json_text.specs.Bytes.{most_open}
 use Rattle.json_text.specs.Check.{verdict}
 use Rattle.json_text.specs.Tree.{Json, string, number, literal, array, object, Elements, no_elements, element, element_list, value_of}
 use Rattle.json_text.specs.Kinds.{as_array, first_in}
-use Rattle.json_text.specs.declared.Checked.{Checked}
-use Rattle.json_text.specs.declared.Checked.TheVariants.{Fine, At}
 use Rattle.jcal.specs.Components.{read_components, read_calendars, stream_in, is_stream, calendars_in}
 use Rattle.jcal.specs.ReadJcal.{json, jcal_verdict, read_jcal}
 use Rattle.jcal.specs.WriteJcal.{write_jcal}
@@ -64,13 +61,13 @@ calendars v h = go (is_stream v) refl
 
 -- ---- the text
 
-none_bad : (o : Option ℕ) → characters o ≡ fine → o ≡ none
-none_bad none h = refl
-none_bad (some p) h = refused_not CHARACTER p h
+none_bad : (o : Option ℕ) → characters o ≡ fine → o ≡ None
+none_bad None h = refl
+none_bad (Some p) h = refused_not CHARACTER p h
 
-none_json : (c : Checked) → json c ≡ fine → c ≡ Fine
-none_json Fine h = refl
-none_json (At p) h = refused_not JSON p h
+none_json : (c : Option ℕ) → json c ≡ fine → c ≡ None
+none_json None h = refl
+none_json (Some p) h = refused_not JSON p h
 
 answered : (v : Verdict) (d c : Calendar) → answer v d ≡ accepted c → (v ≡ fine) × (d ≡ c)
 answered fine d c h = (refl, cc)

@@ -1,13 +1,12 @@
 -- Parameters read from members whose strings are text, and that have no fault, are valid (RFC 7265, section 3.5).
 --     good_kept              a name that is not bad, in capitals
 --     parameters_accepted    the parameters of a property
-use Rattle.std.specs.Prelude.{◌≡◌, Bool, false, ℕ}
+use Rattle.std.specs.Prelude.{◌≡◌, Bool, false, ℕ, Option, None, Some}
 use Rattle.std.proofs.Math.Path.{refl, ap}
 use Rattle.std.proofs.Common.{sym, ◌∙◌}
 use Rattle.std.proofs.Math.Bool.{true, not}
 use Rattle.std.proofs.lemmas.Bool.{false≢true, not-true, not-false}
 use mathlib.Core.List.{List, [], ◌∷◌, map}
-use Rattle.std.proofs.Math.Option.{Option, none, some}
 use Rattle.octets.specs.Ascii.{ascii}
 use Rattle.octets.specs.Pick.{pick, ◌and◌}
 use Rattle.octets.specs.laws.Pick.{pick_no, and_both, and_yes, or_left, or_right, or_no, or_neither, pick_second}
@@ -100,21 +99,21 @@ none_carried : (ed : Edition) (v : Value) → free_in v ≡ [] → is_carried ed
 unfolding every
 none_carried ed v f = and_yes _ _ (nothing_free ed v f) (rw f)
 
-truth_is : (P : Value → Type 0) (s : List ℕ) (v : Value) → read_truth s ≡ some v → ((b : Bool) → P (boolean b)) → P v
+truth_is : (P : Value → Type 0) (s : List ℕ) (v : Value) → read_truth s ≡ Some v → ((b : Bool) → P (boolean b)) → P v
 unfolding pick
 truth_is P s v h f = go (same s (ascii "TRUE")) (same s (ascii "FALSE")) h
   where
-    go : (a b : Bool) → pick a (some (boolean true)) (pick b (some (boolean false)) none) ≡ some v → P v
+    go : (a b : Bool) → pick a (Some (boolean true)) (pick b (Some (boolean false)) None) ≡ Some v → P v
     go true b k = let z : boolean true ≡ v = cc in rw (← z) (f true)
     go false true k = let z : boolean false ≡ v = cc in rw (← z) (f false)
     go false false k = none-some k
 
 -- what is read has the type asked for
-of_parameter : (t : ValueType) (s : List ℕ) (v : Value) → read_word_in none t s ≡ some v → is_of_parameter t v ≡ true
+of_parameter : (t : ValueType) (s : List ℕ) (v : Value) → read_word_in None t s ≡ Some v → is_of_parameter t v ≡ true
 unfolding pick
 of_parameter t s v h = go (same_type t UNKNOWN) refl (same_type t BOOLEAN) refl h
   where
-    go : (b : Bool) → same_type t UNKNOWN ≡ b → (c : Bool) → same_type t BOOLEAN ≡ c → pick b (some (unknown s)) (pick c (read_truth s) (read_value xcal t s)) ≡ some v → is_of_parameter t v ≡ true
+    go : (b : Bool) → same_type t UNKNOWN ≡ b → (c : Bool) → same_type t BOOLEAN ≡ c → pick b (Some (unknown s)) (pick c (read_truth s) (read_value xcal t s)) ≡ Some v → is_of_parameter t v ≡ true
     go true e c f k =
         let z : unknown s ≡ v = cc in
         rw (← z) (and_yes _ _ (rw (same_type_true t UNKNOWN e) (same_type_self UNKNOWN)) (and_yes _ _ refl (or_left _ _ (same_type_self UNKNOWN))))
@@ -125,9 +124,9 @@ of_parameter t s v h = go (same_type t UNKNOWN) refl (same_type t BOOLEAN) refl 
         and_yes _ _ a.0 (and_yes _ _ b.0 (or_right _ _ b.1))
 
 -- and, from clean characters that the edition can spell, both formats can have it
-kept_carried : (ed : Edition) (t : ValueType) (s : List ℕ) (v : Value) → is_type_of t parameter_types ≡ true → is_clean s ≡ true → are_chars ed s ≡ true → read_word_in none t s ≡ some v → is_carried ed v ≡ true
+kept_carried : (ed : Edition) (t : ValueType) (s : List ℕ) (v : Value) → is_type_of t parameter_types ≡ true → is_clean s ≡ true → are_chars ed s ≡ true → read_word_in None t s ≡ Some v → is_carried ed v ≡ true
 unfolding schema_compute read_value pick
-kept_carried ed TEXT s v p c a h = made (λ v. is_carried ed v ≡ true) text (some s) v h (λ x e. let z : s ≡ x = cc in rw (← z) (free_carried ed (text s) s refl c a))
+kept_carried ed TEXT s v p c a h = made (λ v. is_carried ed v ≡ true) text (Some s) v h (λ x e. let z : s ≡ x = cc in rw (← z) (free_carried ed (text s) s refl c a))
 kept_carried ed URI s v p c a h = made (λ v. is_carried ed v ≡ true) uri (read_uri s) v h (λ x e. none_carried ed (uri x) refl)
 kept_carried ed CAL-ADDRESS s v p c a h = made (λ v. is_carried ed v ≡ true) cal_address (read_uri s) v h (λ x e. none_carried ed (cal_address x) refl)
 kept_carried ed BOOLEAN s v p c a h = truth_is (λ v. is_carried ed v ≡ true) s v h (λ b. none_carried ed (boolean b) refl)
@@ -156,7 +155,7 @@ members_textual_lem (member n v ms) h =
     let b = and_both (is_textual v) _ a.1 in
     and_yes _ _ (and_yes _ _ a.0 b.0) (members_textual_lem ms b.1)
 
-pub object_textual : (v : Json) (ms : List Member) → is_textual v ≡ true → as_object v ≡ some ms → every member_textual ms ≡ true
+pub object_textual : (v : Json) (ms : List Member) → is_textual v ≡ true → as_object v ≡ Some ms → every member_textual ms ≡ true
 unfolding is_textual
 object_textual (string p x) ms h e = none-some e
 object_textual (number p x) ms h e = none-some e
@@ -169,8 +168,8 @@ unfolding read_or every
 alone_textual v h = go (as_array v) refl
   where
     go : (o : Option (List Json)) → as_array v ≡ o → every is_textual (read_or (v ∷ []) o) ≡ true
-    go none e = and_yes _ _ h refl
-    go (some vs) e = array_textual v vs h e
+    go None e = and_yes _ _ h refl
+    go (Some vs) e = array_textual v vs h e
 
 module _ (ed : Edition) where
   -- ---- one parameter
@@ -178,14 +177,14 @@ module _ (ed : Edition) where
   abbrev is_spelled : Json → Bool
   is_spelled v = are_chars ed (read_or [] (as_string v))
 
-  word_good : (n : List ℕ) (o : Option (List (List ℕ))) (s : List ℕ) (v : Value) → are_chars ed s ≡ true → is_clean s ≡ true → read_word_in o (parameter_type n) s ≡ some v →
+  word_good : (n : List ℕ) (o : Option (List (List ℕ))) (s : List ℕ) (v : Value) → are_chars ed s ≡ true → is_clean s ≡ true → read_word_in o (parameter_type n) s ≡ Some v →
       (is_parameter_value o (parameter_type n) v and is_carried ed v) ≡ true
-  word_good n none s v a c h = and_yes _ _ (of_parameter (parameter_type n) s v h) (kept_carried ed (parameter_type n) s v (parameter_type_lem n) c a h)
-  word_good n (some words) s v a c h =
+  word_good n None s v a c h = and_yes _ _ (of_parameter (parameter_type n) s v h) (kept_carried ed (parameter_type n) s v (parameter_type_lem n) c a h)
+  word_good n (Some words) s v a c h =
       let p = provided-some (is_one_of s words) (text s) v h in
       rw (← p.1) (and_yes _ _ p.0 (free_carried ed (text s) s refl c a))
 
-  value_good : (n : List ℕ) (j : Json) (v : Value) → (is_textual j and is_spelled j) ≡ true → and_then (as_string j) (read_characters n) ≡ some v → (is_parameter_value (parameter_words n) (parameter_type n) v and is_carried ed v) ≡ true
+  value_good : (n : List ℕ) (j : Json) (v : Value) → (is_textual j and is_spelled j) ≡ true → and_then (as_string j) (read_characters n) ≡ Some v → (is_parameter_value (parameter_words n) (parameter_type n) v and is_carried ed v) ≡ true
   unfolding read_or
   value_good n j v t h =
       let a = and_both (is_textual j) _ t in
@@ -201,7 +200,7 @@ module _ (ed : Edition) where
   unfolding octets_compute
   small_value = refl
 
-  parameter_reads : (m : Member) (p : Parameter) → is_bad_parameter m ≡ false → is_textual m.value ≡ true → every is_spelled (or_alone m.value) ≡ true → read_parameter m ≡ some p → Reads m p
+  parameter_reads : (m : Member) (p : Parameter) → is_bad_parameter m ≡ false → is_textual m.value ≡ true → every is_spelled (or_alone m.value) ≡ true → read_parameter m ≡ Some p → Reads m p
   unfolding read_parameter is_valid_parameter is_parameter
   parameter_reads m p b t s h =
       let n = upper m.name in
@@ -240,19 +239,19 @@ module _ (ed : Edition) where
   abbrev is_good : Member → Bool
   is_good m = not (is_bad_parameter m) and member_textual m and every is_spelled (or_alone m.value)
 
-  good_reads : (m : Member) (p : Parameter) → is_good m ≡ true → read_parameter m ≡ some p → Reads m p
+  good_reads : (m : Member) (p : Parameter) → is_good m ≡ true → read_parameter m ≡ Some p → Reads m p
   good_reads m p g h =
       let a = and_both (not (is_bad_parameter m)) _ g in
       let b = and_both (member_textual m) _ a.1 in
       parameter_reads m p (not-true _ a.0) (and_both (is_text m.name) _ b.0).1 b.1 h
 
-  valid_each : (ms : List Member) (ps : List Parameter) → every is_good ms ≡ true → read_each read_parameter ms ≡ some ps → every (is_valid_parameter ed) ps ≡ true
+  valid_each : (ms : List Member) (ps : List Parameter) → every is_good ms ≡ true → read_each read_parameter ms ≡ Some ps → every (is_valid_parameter ed) ps ≡ true
   valid_each ms ps g h = each_accepted_of read_parameter (is_valid_parameter ed) is_good (λ m p i e. (good_reads m p i e).valid) ms ps g h
 
   abbrev name_in : Member → List ℕ
   name_in m = m.name
 
-  names_each : (ms : List Member) (ps : List Parameter) → every is_good ms ≡ true → read_each read_parameter ms ≡ some ps → map (λ (p : Parameter). p.name) ps ≡ map (λ (m : Member). upper m.name) ms
+  names_each : (ms : List Member) (ps : List Parameter) → every is_good ms ≡ true → read_each read_parameter ms ≡ Some ps → map (λ (p : Parameter). p.name) ps ≡ map (λ (m : Member). upper m.name) ms
   unfolding read_each
   names_each [] ps g h = let z : [] ≡ ps = cc in rw (← z)
   names_each (m ∷ ms) ps g h =

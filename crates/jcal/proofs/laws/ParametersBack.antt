@@ -1,12 +1,11 @@
 -- Parameters are read back from their members (RFC 7265, section 3.5).
 --     parameters_back    the parameters of a property
 --     parameters_good_lem  and they have no fault
-use Rattle.std.specs.Prelude.{◌≡◌, Bool, List, [], ◌∷◌, map, ℕ}
+use Rattle.std.specs.Prelude.{◌≡◌, Bool, List, [], ◌∷◌, map, ℕ, Option, None, Some}
 use Rattle.std.proofs.Math.Path.{refl}
 use Rattle.std.proofs.Common.{◌∙◌}
 use Rattle.std.proofs.Math.Bool.{true, false}
 use Rattle.std.proofs.lemmas.Bool.{false≢true}
-use Rattle.std.proofs.Math.Option.{Option, none, some}
 use Rattle.octets.specs.Pick.{pick, ◌and◌, ◌or◌}
 use Rattle.octets.specs.laws.Pick.{and_both, and_yes}
 use Rattle.octets.specs.Class.{is_visible, upper, lower}
@@ -43,7 +42,7 @@ use Rattle.jcal.proofs.laws.ValuesBack.{alone_back}
 
 -- ---- one value
 
-plain_back : (v : Value) → is_character_data v ≡ true → is_value v ≡ true → read_word_in none (type_of v) (parameter_value v) ≡ some v
+plain_back : (v : Value) → is_character_data v ≡ true → is_value v ≡ true → read_word_in None (type_of v) (parameter_value v) ≡ Some v
 unfolding parameter_value value_characters same_type octets_compute
 plain_back (binary s) c h = characters_read_back (binary s) refl h
 plain_back (boolean true) c h = refl
@@ -66,22 +65,22 @@ plain_back (geo la lo) c h = absurd (false≢true c)
 plain_back (request_status a b x) c h = absurd (false≢true c)
 
 -- that of an unrecognised parameter is any characters
-unknown_back : (s : List ℕ) → read_word_in none UNKNOWN (parameter_value (unknown s)) ≡ some (unknown s)
+unknown_back : (s : List ℕ) → read_word_in None UNKNOWN (parameter_value (unknown s)) ≡ Some (unknown s)
 unfolding parameter_value value_characters same_type octets_compute
 unknown_back s = refl
 
-word_back : (o : Option (List (List ℕ))) (t : ValueType) (v : Value) → is_parameter_value o t v ≡ true → is_character_data v ≡ true → read_word_in o t (parameter_value v) ≡ some v
+word_back : (o : Option (List (List ℕ))) (t : ValueType) (v : Value) → is_parameter_value o t v ≡ true → is_character_data v ≡ true → read_word_in o t (parameter_value v) ≡ Some v
 unfolding parameter_value value_characters pick
-word_back none t v h c =
+word_back None t v h c =
     let p = and_both (same_type (type_of v) t) _ h in
     let q = and_both (is_typed v) (same_type (type_of v) UNKNOWN or is_value v) p.1 in
     rw (← (same_type_true (type_of v) t p.0))
-    (kept_or_valid (λ v. is_character_data v ≡ true → read_word_in none (type_of v) (parameter_value v) ≡ some v) (λ s c. unknown_back s) (λ v h c. plain_back v c h) v q.1 c)
-word_back (some words) t v h c = go (text_in v) refl h
+    (kept_or_valid (λ v. is_character_data v ≡ true → read_word_in None (type_of v) (parameter_value v) ≡ Some v) (λ s c. unknown_back s) (λ v h c. plain_back v c h) v q.1 c)
+word_back (Some words) t v h c = go (text_in v) refl h
   where
-    go : (o : Option (List ℕ)) → text_in v ≡ o → is_word_in words o ≡ true → read_word_in (some words) t (parameter_value v) ≡ some v
-    go none e k = absurd (false≢true k)
-    go (some s) e k = rw (text_in_lem v s e, k)
+    go : (o : Option (List ℕ)) → text_in v ≡ o → is_word_in words o ≡ true → read_word_in (Some words) t (parameter_value v) ≡ Some v
+    go None e k = absurd (false≢true k)
+    go (Some s) e k = rw (text_in_lem v s e, k)
 
 -- no double quote (34) and no LF (10)
 neither : (s : List ℕ) → holds 34 s ≡ false → holds 10 s ≡ false → is_plain s ≡ true
@@ -110,13 +109,13 @@ module _ (n : List ℕ) where
       truth true f = refl
       truth false f = refl
 
-  value_back : (v : Value) → is_parameter_value (parameter_words n) (parameter_type n) v ≡ true → and_then (as_string (str (parameter_value v))) (read_characters n) ≡ some v
+  value_back : (v : Value) → is_parameter_value (parameter_words n) (parameter_type n) v ≡ true → and_then (as_string (str (parameter_value v))) (read_characters n) ≡ Some v
   unfolding and_then
   value_back v h = word_back (parameter_words n) (parameter_type n) v h (data_of v h)
 
 -- ---- one parameter
 
-parameter_back : (ed : Edition) (p : Parameter) → is_valid_parameter ed p ≡ true → read_parameter (parameter_member p) ≡ some p
+parameter_back : (ed : Edition) (p : Parameter) → is_valid_parameter ed p ≡ true → read_parameter (parameter_member p) ≡ Some p
 unfolding read_parameter and_then pick
 parameter_back ed p h =
     let c = valid_parameter ed p h in
@@ -127,7 +126,7 @@ parameter_back ed p h =
       c.amount,
     )
 
-pub parameters_back : (ed : Edition) (ps : List Parameter) → every (is_valid_parameter ed) ps ≡ true → read_parameters (map parameter_member ps) ≡ some ps
+pub parameters_back : (ed : Edition) (ps : List Parameter) → every (is_valid_parameter ed) ps ≡ true → read_parameters (map parameter_member ps) ≡ Some ps
 parameters_back ed ps h = each_read_back read_parameter (is_valid_parameter ed) parameter_member (parameter_back ed) ps h
 
 -- ---- all parameters

@@ -1,11 +1,9 @@
 -- What is read of a JSON value does not hang on its places.
 --     typed_bare, values_bare, parameters_bare, fault_bare, property_bare    of values, parameters, properties
-use Rattle.std.specs.Prelude.{◌≡◌, Bool, ℕ, zero, suc, drop}
+use Rattle.std.specs.Prelude.{◌≡◌, Bool, ℕ, zero, suc, drop, Option, None, Some, option_map}
 use Rattle.std.proofs.Math.Path.{refl}
 use Rattle.std.proofs.Common.{ap}
 use mathlib.Core.List.{List, [], ◌∷◌, map}
-use Rattle.std.proofs.Math.Option
-use Rattle.std.proofs.Math.Option.{Option, none, some}
 use Rattle.octets.specs.Pick.{pick}
 use Rattle.octets.specs.Class.{upper, lower}
 use Rattle.octets.specs.Words.{same}
@@ -71,21 +69,21 @@ as_literal_lem (literal p s) = refl
 as_literal_lem (array p e vs) = refl
 as_literal_lem (object p e ms) = refl
 
-pub as_array_lem : (v : Json) → as_array (bare v) ≡ Option.map (map bare) (as_array v)
+pub as_array_lem : (v : Json) → as_array (bare v) ≡ option_map (map bare) (as_array v)
 unfolding bare
 as_array_lem (string p s) = refl
 as_array_lem (number p s) = refl
 as_array_lem (literal p s) = refl
-as_array_lem (array p e vs) = ap some (element_bare vs)
+as_array_lem (array p e vs) = ap Some (element_bare vs)
 as_array_lem (object p e ms) = refl
 
-as_object_lem : (v : Json) → as_object (bare v) ≡ Option.map (map bare_member) (as_object v)
+as_object_lem : (v : Json) → as_object (bare v) ≡ option_map (map bare_member) (as_object v)
 unfolding bare
 as_object_lem (string p s) = refl
 as_object_lem (number p s) = refl
 as_object_lem (literal p s) = refl
 as_object_lem (array p e vs) = refl
-as_object_lem (object p e ms) = ap some (member_bare ms)
+as_object_lem (object p e ms) = ap Some (member_bare ms)
 
 alone_bare : (v : Json) → or_alone (bare v) ≡ map bare (or_alone v)
 unfolding bare read_or
@@ -95,10 +93,10 @@ alone_bare (literal p s) = refl
 alone_bare (array p e vs) = element_bare vs
 alone_bare (object p e ms) = refl
 
-pub nth-bare : (k : ℕ) (vs : List Json) → nth k (map bare vs) ≡ Option.map bare (nth k vs)
+pub nth-bare : (k : ℕ) (vs : List Json) → nth k (map bare vs) ≡ option_map bare (nth k vs)
 nth-bare k vs = rw (drop-map bare k vs) (go (drop k vs))
   where
-    go : (l : List Json) → first_in (map bare l) ≡ Option.map bare (first_in l)
+    go : (l : List Json) → first_in (map bare l) ≡ option_map bare (first_in l)
     go [] = refl
     go (v ∷ l) = refl
 
@@ -109,17 +107,17 @@ module _ {B : Type 0} where
   unfolding and_then
   then_array f h v = rw (as_array_lem v) (go (as_array v))
     where
-      go : (o : Option (List Json)) → and_then (Option.map (map bare) o) f ≡ and_then o f
-      go none = refl
-      go (some vs) = h vs
+      go : (o : Option (List Json)) → and_then (option_map (map bare) o) f ≡ and_then o f
+      go None = refl
+      go (Some vs) = h vs
 
   then_object : (f : List Member → Option B) → ((ms : List Member) → f (map bare_member ms) ≡ f ms) → (v : Json) → and_then (as_object (bare v)) f ≡ and_then (as_object v) f
   unfolding and_then
   then_object f h v = rw (as_object_lem v) (go (as_object v))
     where
-      go : (o : Option (List Member)) → and_then (Option.map (map bare_member) o) f ≡ and_then o f
-      go none = refl
-      go (some ms) = h ms
+      go : (o : Option (List Member)) → and_then (option_map (map bare_member) o) f ≡ and_then o f
+      go None = refl
+      go (Some ms) = h ms
 
   each_bare : (f : Json → Option B) → ((v : Json) → f (bare v) ≡ f v) → (vs : List Json) → read_each f (map bare vs) ≡ read_each f vs
   unfolding read_each
@@ -158,11 +156,11 @@ items_bare r v = rw (alone_bare v, each_bare (read_item r) (λ v. rw (item_text_
 
 part_bare : (m : Member) → read_part (bare_member m) ≡ read_part m
 unfolding and_then
-part_bare m = ap (λ (x : Option RulePart). pick (same m.name (lower m.name)) x none) (go (part_of (upper m.name)))
+part_bare m = ap (λ (x : Option RulePart). pick (same m.name (lower m.name)) x None) (go (part_of (upper m.name)))
   where
     go : (o : Option Part) → and_then o (λ r. read_items r (or_alone (bare m.value))) ≡ and_then o (λ r. read_items r (or_alone m.value))
-    go none = refl
-    go (some r) = items_bare r m.value
+    go None = refl
+    go (Some r) = items_bare r m.value
 
 recur_bare : (ms : List Member) → read_recur (map bare_member ms) ≡ read_recur ms
 recur_bare ms = rw (each_member read_part part_bare ms)
@@ -186,8 +184,8 @@ typed_bare UTC-OFFSET v = rw (as_string_lem v)
 typed_bare UNKNOWN v = rw (as_string_lem v)
 
 chosen_bare : (o : Option (List (List ℕ))) (t : ValueType) (v : Json) → read_chosen o t (bare v) ≡ read_chosen o t v
-chosen_bare none t v = typed_bare t v
-chosen_bare (some words) t v = rw (as_string_lem v)
+chosen_bare None t v = typed_bare t v
+chosen_bare (Some words) t v = rw (as_string_lem v)
 
 one_bare : (k n : List ℕ) (t : ValueType) (v : Json) → read_one k n t (bare v) ≡ read_one k n t v
 one_bare k n t v =
@@ -249,41 +247,41 @@ module _ (vs : List Json) where
   unfolding and_then
   name_bare = rw (nth-bare 0 vs) (go (nth 0 vs))
     where
-      go : (o : Option Json) → and_then (Option.map bare o) as_string ≡ and_then o as_string
-      go none = refl
-      go (some v) = as_string_lem v
+      go : (o : Option Json) → and_then (option_map bare o) as_string ≡ and_then o as_string
+      go None = refl
+      go (Some v) = as_string_lem v
 
-  members_bare : parameters_in (map bare vs) ≡ Option.map (map bare_member) (parameters_in vs)
+  members_bare : parameters_in (map bare vs) ≡ option_map (map bare_member) (parameters_in vs)
   unfolding and_then
   members_bare = rw (nth-bare 1 vs) (go (nth 1 vs))
     where
-      go : (o : Option Json) → and_then (Option.map bare o) as_object ≡ Option.map (map bare_member) (and_then o as_object)
-      go none = refl
-      go (some v) = as_object_lem v
+      go : (o : Option Json) → and_then (option_map bare o) as_object ≡ option_map (map bare_member) (and_then o as_object)
+      go None = refl
+      go (Some v) = as_object_lem v
 
   type_bare : type_in (map bare vs) ≡ type_in vs
   unfolding and_then
   type_bare = rw (nth-bare 2 vs) (go (nth 2 vs))
     where
-      go : (o : Option Json) → and_then (and_then (Option.map bare o) as_string) type_of ≡ and_then (and_then o as_string) type_of
-      go none = refl
-      go (some v) = rw (as_string_lem v)
+      go : (o : Option Json) → and_then (and_then (option_map bare o) as_string) type_of ≡ and_then (and_then o as_string) type_of
+      go None = refl
+      go (Some v) = rw (as_string_lem v)
 
   list_bare : members_in (map bare vs) ≡ map bare_member (members_in vs)
   unfolding read_or
   list_bare = rw members_bare (go (parameters_in vs))
     where
-      go : (o : Option (List Member)) → read_or [] (Option.map (map bare_member) o) ≡ map bare_member (read_or [] o)
-      go none = refl
-      go (some ms) = refl
+      go : (o : Option (List Member)) → read_or [] (option_map (map bare_member) o) ≡ map bare_member (read_or [] o)
+      go None = refl
+      go (Some ms) = refl
 
   read_bare : is_read (parameters_in (map bare vs)) ≡ is_read (parameters_in vs)
   unfolding is_read
   read_bare = rw members_bare (go (parameters_in vs))
     where
-      go : (o : Option (List Member)) → is_read (Option.map (map bare_member) o) ≡ is_read o
-      go none = refl
-      go (some ms) = refl
+      go : (o : Option (List Member)) → is_read (option_map (map bare_member) o) ≡ is_read o
+      go None = refl
+      go (Some ms) = refl
 
   rest_bare : values_in (map bare vs) ≡ map bare (values_in vs)
   rest_bare = drop-map bare 3 vs

@@ -1,11 +1,9 @@
 -- What is read of components, and whether it is refused, does not hang on places.
 --     verdict_bare    whether a value is refused
 --     read_bare       it states the same components
-use Rattle.std.specs.Prelude.{◌≡◌, refl, Bool, true, false, List, [], ◌∷◌, map, ℕ, zero, suc, ◌-◌, length}
+use Rattle.std.specs.Prelude.{◌≡◌, refl, Bool, true, false, List, [], ◌∷◌, map, ℕ, zero, suc, ◌-◌, length, Option, None, Some, option_map}
 use Rattle.std.proofs.Common.{sym, ap}
 use Rattle.std.proofs.lemmas.Bool.{false≢true}
-use Rattle.std.proofs.Math.Option
-use Rattle.std.proofs.Math.Option.{Option, none, some}
 use Rattle.octets.specs.Pick.{pick}
 use Rattle.octets.specs.Words.{is_empty}
 use Rattle.octets.specs.Reading.{and_then, is_read, read_or}
@@ -38,17 +36,17 @@ both (refuse r p) fine c d h k = absurd (false≢true h)
 both (refuse r p) (refuse s q) c d h k = refl
 
 at_same : (p q : ℕ) (o : Option Refusal) → is_fine (at p o) ≡ is_fine (at q o)
-at_same p q none = refl
-at_same p q (some r) = refl
+at_same p q None = refl
+at_same p q (Some r) = refl
 
 -- ---- properties
 
 property_verdict_lem : (ed : Edition) (k : List ℕ) (v : Json) → is_fine (property_verdict ed k (bare v) (as_array (bare v))) ≡ is_fine (property_verdict ed k v (as_array v))
 property_verdict_lem ed k v = rw (as_array_lem v) (go (as_array v))
   where
-    go : (o : Option (List Json)) → is_fine (property_verdict ed k (bare v) (Option.map (map bare) o)) ≡ is_fine (property_verdict ed k v o)
-    go none = refl
-    go (some vs) = rw (fault_bare vs ed k) (at_same _ _ (property_fault ed k vs))
+    go : (o : Option (List Json)) → is_fine (property_verdict ed k (bare v) (option_map (map bare) o)) ≡ is_fine (property_verdict ed k v o)
+    go None = refl
+    go (Some vs) = rw (fault_bare vs ed k) (at_same _ _ (property_fault ed k vs))
 
 properties_verdict_lem : (ed : Edition) (k : List ℕ) (vs : List Json) → is_fine (properties_verdict ed k (map bare vs)) ≡ is_fine (properties_verdict ed k vs)
 unfolding properties_verdict
@@ -59,23 +57,23 @@ properties_verdict_lem ed k (v ∷ vs) =
 
 -- ---- the elements of a component
 
-or_none : (o : Option (List Json)) → read_or [] (Option.map (map bare) o) ≡ map bare (read_or [] o)
+or_none : (o : Option (List Json)) → read_or [] (option_map (map bare) o) ≡ map bare (read_or [] o)
 unfolding read_or
-or_none none = refl
-or_none (some vs) = refl
+or_none None = refl
+or_none (Some vs) = refl
 
-still_read : (o : Option (List Json)) → is_read (Option.map (map bare) o) ≡ is_read o
+still_read : (o : Option (List Json)) → is_read (option_map (map bare) o) ≡ is_read o
 unfolding is_read
-still_read none = refl
-still_read (some vs) = refl
+still_read None = refl
+still_read (Some vs) = refl
 
-nth_array : (k : ℕ) (vs : List Json) → and_then (nth k (map bare vs)) as_array ≡ Option.map (map bare) (and_then (nth k vs) as_array)
+nth_array : (k : ℕ) (vs : List Json) → and_then (nth k (map bare vs)) as_array ≡ option_map (map bare) (and_then (nth k vs) as_array)
 unfolding and_then
 nth_array k vs = rw (nth-bare k vs) (go (nth k vs))
   where
-    go : (o : Option Json) → and_then (Option.map bare o) as_array ≡ Option.map (map bare) (and_then o as_array)
-    go none = refl
-    go (some v) = as_array_lem v
+    go : (o : Option Json) → and_then (option_map bare o) as_array ≡ option_map (map bare) (and_then o as_array)
+    go None = refl
+    go (Some v) = as_array_lem v
 
 each_property : (k : List ℕ) (vs : List Json) → map (λ v. property_of k (read_or [] (as_array v))) (map bare vs) ≡ map (λ v. property_of k (read_or [] (as_array v))) vs
 each_property k [] = refl
@@ -93,10 +91,10 @@ module _ (vs : List Json) where
   name_same : component_name (map bare vs) ≡ component_name vs
   name_same = rw (name_bare vs)
 
-  arrays_bare : property_arrays (map bare vs) ≡ Option.map (map bare) (property_arrays vs)
+  arrays_bare : property_arrays (map bare vs) ≡ option_map (map bare) (property_arrays vs)
   arrays_bare = nth_array 1 vs
 
-  inner_bare : component_arrays (map bare vs) ≡ Option.map (map bare) (component_arrays vs)
+  inner_bare : component_arrays (map bare vs) ≡ option_map (map bare) (component_arrays vs)
   inner_bare = nth_array 2 vs
 
   properties_same : read_properties (map bare vs) ≡ read_properties vs

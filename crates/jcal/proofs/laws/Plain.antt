@@ -1,11 +1,10 @@
--- Values whose characters stand in JSON as they are: dates and times, numbers, BINARY, URI. None of them has a quotation mark, a backslash, LF or TAB.
+-- Values whose characters stand in JSON as they are: dates and times, numbers, BINARY, URI. Absent of them has a quotation mark, a backslash, LF or TAB.
 --     is_plain                a character that stands as it is
 --     plain_escaped          such characters have no escapes;   chars_plain: nor have those of dates and times
 --     date_plain, time_plain, date_time_plain, duration_plain, offset_plain, integer_plain, float_plain, boolean_plain, binary_plain, uri_plain    what each type writes;   item_plain: an item of a rule
-use Rattle.std.specs.Prelude.{◌≡◌, refl, Bool, true, false, List, [], ◌∷◌, ℕ, zero, suc, eqb, ltb, length}
+use Rattle.std.specs.Prelude.{◌≡◌, refl, Bool, true, false, List, [], ◌∷◌, ℕ, zero, suc, eqb, ltb, length, Option, None, Some}
 use Rattle.std.proofs.Common.{sym, ap, ◌∙◌, ne_eqb, eqb-true}
 use Rattle.std.proofs.lemmas.Bool.{false≢true}
-use Rattle.std.proofs.Math.Option.{Option, none, some}
 use Rattle.octets.specs.Ascii.{ascii}
 use Rattle.octets.specs.Append.{◌⊕◌}
 use Rattle.octets.specs.Pick.{pick, ◌and◌, ◌or◌}
@@ -90,23 +89,23 @@ marks_all (m ∷ ms) p k s h =
 
 -- ---- dates and times
 
-pub date_plain : (l v : List ℕ) → read_date ical l ≡ some v → escaped (write_date xcal v) ≡ write_date xcal v
+pub date_plain : (l v : List ℕ) → read_date ical l ≡ Some v → escaped (write_date xcal v) ≡ write_date xcal v
 unfolding write_date every ◌and◌ pick
 date_plain l v h = plain_escaped _ (marks_all date_marks is_plain refl v (chars_plain v (date_chars v (date_accepted ical l v h))))
 
-pub time_plain : (l v : List ℕ) → read_time ical l ≡ some v → escaped (write_time xcal v) ≡ write_time xcal v
+pub time_plain : (l v : List ℕ) → read_time ical l ≡ Some v → escaped (write_time xcal v) ≡ write_time xcal v
 unfolding write_time every ◌and◌ pick
 time_plain l v h = plain_escaped _ (marks_all time_marks is_plain refl v (chars_plain v (time_chars v (time_accepted ical l v h))))
 
-pub date_time_plain : (l v : List ℕ) → read_date_time ical l ≡ some v → escaped (write_date_time xcal v) ≡ write_date_time xcal v
+pub date_time_plain : (l v : List ℕ) → read_date_time ical l ≡ Some v → escaped (write_date_time xcal v) ≡ write_date_time xcal v
 unfolding write_date_time every ◌and◌ pick
 date_time_plain l v h = plain_escaped _ (marks_all date_time_marks is_plain refl v (chars_plain v (date_time_chars v (date_time_accepted ical l v h))))
 
-pub duration_plain : (l v : List ℕ) → read_duration ical l ≡ some v → escaped (write_duration xcal v) ≡ write_duration xcal v
+pub duration_plain : (l v : List ℕ) → read_duration ical l ≡ Some v → escaped (write_duration xcal v) ≡ write_duration xcal v
 unfolding write_duration
 duration_plain l v h = plain_escaped v (chars_plain v (duration_chars v (duration_accepted ical l v h)))
 
-pub offset_plain : (l v : List ℕ) → read_utc_offset ical l ≡ some v → escaped (write_utc_offset xcal v) ≡ write_utc_offset xcal v
+pub offset_plain : (l v : List ℕ) → read_utc_offset ical l ≡ Some v → escaped (write_utc_offset xcal v) ≡ write_utc_offset xcal v
 unfolding write_utc_offset every ◌and◌ pick
 offset_plain l v h =
     let k = chars_plain v (utc_offset_chars v (utc_offset_accepted ical l v h)) in
@@ -118,7 +117,7 @@ pub integer_plain : (w : Whole) → escaped (write_integer w) ≡ write_integer 
 unfolding pick
 integer_plain w = plain_escaped _ (whole_all is_plain digit_plain refl w)
 
-pub float_plain : (l : List ℕ) (d : Decimal) → read_float l ≡ some d → escaped (write_float d) ≡ write_float d
+pub float_plain : (l : List ℕ) (d : Decimal) → read_float l ≡ Some d → escaped (write_float d) ≡ write_float d
 unfolding pick
 float_plain l d h = plain_escaped _ (float_all is_plain digit_plain refl refl d (float_accepted l d h))
 
@@ -143,7 +142,7 @@ from_plain [] n last h = refl
 from_plain (b ∷ s) n last h =
     all_cons is_plain b s (in_plain n last b (and_both (in_group n last b) _ h).0) (from_plain s (next_place n b) b (and_both (in_group n last b) _ h).1)
 
-pub binary_plain : (l v : List ℕ) → read_binary ical l ≡ some v → escaped v ≡ v
+pub binary_plain : (l v : List ℕ) → read_binary ical l ≡ Some v → escaped v ≡ v
 binary_plain l v h = plain_escaped v (from_plain v 0 0 (binary_accepted ical l v h))
 
 -- ---- URI
@@ -190,8 +189,8 @@ moment_form (signed d hi) m h = absurd (false≢true h)
 moment_form weekdaynum m h = absurd (false≢true h)
 
 moment_for : (o : Option Part) (m : List ℕ) → is_for o (moment m) ≡ true → (is_date m or is_date_time m) ≡ true
-moment_for none m h = absurd (false≢true h)
-moment_for (some r) m h = moment_form r.form m h
+moment_for None m h = absurd (false≢true h)
+moment_for (Some r) m h = moment_form r.form m h
 
 pub item_plain : (n : List ℕ) (i : RuleItem) → is_item n i ≡ true → escaped (write_item xcal i) ≡ write_item xcal i
 item_plain n (moment m) h = moment_plain m (moment_for (part_of n) m h)

@@ -1,8 +1,7 @@
 -- A property read from an array that has no fault, and whose strings are text, is valid (RFC 7265, section 3.4).
 --     property_accepted
-use Rattle.std.specs.Prelude.{◌≡◌, refl, Bool, true, false, not, List, [], ◌∷◌, ℕ, zero, suc, drop}
+use Rattle.std.specs.Prelude.{◌≡◌, refl, Bool, true, false, not, List, [], ◌∷◌, ℕ, zero, suc, drop, Option, None, Some}
 use Rattle.std.proofs.Common.{sym, ap, ◌∙◌}
-use Rattle.std.proofs.Math.Option.{Option, none, some}
 use Rattle.std.proofs.lemmas.Bool.{not-false}
 use Rattle.octets.specs.Ascii.{ascii}
 use Rattle.octets.specs.Pick.{pick}
@@ -32,13 +31,13 @@ use Rattle.jcal.proofs.laws.ParametersAccepted.{good_kept, small_apart, member_t
 -- ---- faults
 
 -- a test that refuses where it holds
-pub past_fault : (t : Bool) (r : Refusal) (o : Option Refusal) → pick t (some r) o ≡ none → (t ≡ false) × (o ≡ none)
+pub past_fault : (t : Bool) (r : Refusal) (o : Option Refusal) → pick t (Some r) o ≡ None → (t ≡ false) × (o ≡ None)
 unfolding pick
 past_fault true r o h = none-some (sym h)
 past_fault false r o h = (refl, h)
 
 -- one that refuses where it fails
-pub last_fault : (t : Bool) (r : Refusal) → pick t none (some r) ≡ none → t ≡ true
+pub last_fault : (t : Bool) (r : Refusal) → pick t None (Some r) ≡ None → t ≡ true
 unfolding pick
 last_fault true r h = refl
 last_fault false r h = none-some (sym h)
@@ -50,11 +49,11 @@ drop_textual zero vs h = h
 drop_textual (suc k) [] h = h
 drop_textual (suc k) (v ∷ vs) h = drop_textual k vs (every_both is_textual v vs h).1
 
-first_textual : (vs : List Json) (v : Json) → every is_textual vs ≡ true → first_in vs ≡ some v → is_textual v ≡ true
+first_textual : (vs : List Json) (v : Json) → every is_textual vs ≡ true → first_in vs ≡ Some v → is_textual v ≡ true
 first_textual [] v h e = none-some e
 first_textual (x ∷ vs) v h e = let z : x ≡ v = cc in rw (← z) (every_both is_textual x vs h).0
 
-pub nth_textual : (k : ℕ) (vs : List Json) (v : Json) → every is_textual vs ≡ true → nth k vs ≡ some v → is_textual v ≡ true
+pub nth_textual : (k : ℕ) (vs : List Json) (v : Json) → every is_textual vs ≡ true → nth k vs ≡ Some v → is_textual v ≡ true
 nth_textual k vs v h e = first_textual (drop k vs) v (drop_textual k vs h) e
 
 members_textual_lem : (vs : List Json) → every is_textual vs ≡ true → every member_textual (member_list vs) ≡ true
@@ -62,15 +61,15 @@ unfolding read_or every
 members_textual_lem vs h = go (parameters_in vs) refl
   where
     go : (o : Option (List Member)) → parameters_in vs ≡ o → every member_textual (read_or [] o) ≡ true
-    go none e = refl
-    go (some ms) e = let a = and_then-some (nth 1 vs) as_object ms e in object_textual a.0 ms (nth_textual 1 vs a.0 h a.1) a.2
+    go None e = refl
+    go (Some ms) e = let a = and_then-some (nth 1 vs) as_object ms e in object_textual a.0 ms (nth_textual 1 vs a.0 h a.1) a.2
 
 -- ---- a property
 
 -- the test of a name that is there
-pub passed_name : (f : List ℕ → Bool) (o : Option (List ℕ)) (m : List ℕ) → o ≡ some m → passes f o ≡ false → f m ≡ false
-passed_name f none m e h = none-some e
-passed_name f (some n) m e h = let z : n ≡ m = cc in rw (← z) h
+pub passed_name : (f : List ℕ → Bool) (o : Option (List ℕ)) (m : List ℕ) → o ≡ Some m → passes f o ≡ false → f m ≡ false
+passed_name f None m e h = none-some e
+passed_name f (Some n) m e h = let z : n ≡ m = cc in rw (← z) h
 
 small_begin : lower (ascii "BEGIN") ≡ ascii "begin"
 unfolding octets_compute
@@ -80,7 +79,7 @@ small_end : lower (ascii "END") ≡ ascii "end"
 unfolding octets_compute
 small_end = refl
 
-pub property_accepted : (ed : Edition) (k : List ℕ) (vs : List Json) → every is_textual vs ≡ true → property_fault ed k vs ≡ none → is_valid_property ed k (property_of k vs) ≡ true
+pub property_accepted : (ed : Edition) (k : List ℕ) (vs : List Json) → every is_textual vs ≡ true → property_fault ed k vs ≡ None → is_valid_property ed k (property_of k vs) ≡ true
 unfolding property_fault names_bad is_shaped property_of is_valid_property is_property read_or
 property_accepted ed k vs c h =
     let n = property_name vs in

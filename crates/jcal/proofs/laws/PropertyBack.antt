@@ -1,10 +1,9 @@
 -- A property is read back from its array, which has no fault (RFC 7265, section 3.4).
 --     property_back, property_fine
-use Rattle.std.specs.Prelude.{◌≡◌, Bool, true, false, List, [], ◌∷◌, map, ℕ}
+use Rattle.std.specs.Prelude.{◌≡◌, Bool, true, false, List, [], ◌∷◌, map, ℕ, None, Some}
 use Rattle.std.proofs.Math.Path.{refl, ap}
 use Rattle.std.proofs.Common.{◌∙◌}
 use Rattle.std.proofs.lemmas.Bool.{false≢true}
-use Rattle.std.proofs.Math.Option.{none, some}
 use Rattle.octets.specs.Ascii.{ascii}
 use Rattle.octets.specs.Pick.{pick, ◌and◌}
 use Rattle.octets.specs.laws.Pick.{and_both, or_no}
@@ -58,7 +57,7 @@ good_parameters ed (p ∷ ps) h =
 
 -- ---- types
 
-pub type_back : (t : ValueType) → type_of (lower (type_name t)) ≡ some t
+pub type_back : (t : ValueType) → type_of (lower (type_name t)) ≡ Some t
 unfolding schema_compute
 type_back BINARY = refl
 type_back BOOLEAN = refl
@@ -84,15 +83,15 @@ amount_same l (v ∷ []) = refl
 amount_same l (v ∷ w ∷ vs) = refl
 
 module _ (ed : Edition) (k : List ℕ) (p : Property) (c : ValidProperty ed k p) where
-  params : parameters_in (property_elements p) ≡ some (map parameter_member p.parameters)
+  params : parameters_in (property_elements p) ≡ Some (map parameter_member p.parameters)
   unfolding and_then
-  params = ap some (member_list_lem (map parameter_member p.parameters))
+  params = ap Some (member_list_lem (map parameter_member p.parameters))
 
-  type_there : type_in (property_elements p) ≡ some (type_of_all p.values)
+  type_there : type_in (property_elements p) ≡ Some (type_of_all p.values)
   unfolding and_then
   type_there = type_back (type_of_all p.values)
 
-  values_there : read_values k p.name (type_of_all p.values) (map value_tree p.values) ≡ some p.values
+  values_there : read_values k p.name (type_of_all p.values) (map value_tree p.values) ≡ Some p.values
   values_there = values_back k p.name (type_of_all p.values) p.values c.values
 
   names_good : names_bad (property_elements p) ≡ false
@@ -110,7 +109,7 @@ module _ (ed : Edition) (k : List ℕ) (p : Property) (c : ValidProperty ed k p)
   unfolding is_shaped and_then is_read read_or ◌and◌
   shaped = rw (type_back (type_of_all p.values), kept_back p.name c.kept, amount) c.stands
 
-  pub property_fine : property_fault ed k (property_elements p) ≡ none
+  pub property_fine : property_fault ed k (property_elements p) ≡ None
   unfolding property_fault and_then is_read read_or pick
   property_fine =
       rw (

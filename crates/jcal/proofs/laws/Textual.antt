@@ -1,13 +1,12 @@
 -- The value of a JSON text that passes the checks: its strings and names are text (RFC 8259).
 --     is_textual        a value whose strings and names are text
 --     value_textual     that of such a text
-use Rattle.std.specs.Prelude.{◌≡◌, Bool, false, ltb, length, drop}
+use Rattle.std.specs.Prelude.{◌≡◌, Bool, false, ltb, length, drop, None, Option}
 use Rattle.std.proofs.Math.Path.{refl}
 use Rattle.std.proofs.Common.{sym, subst, ◌∙◌, arith, eqb-true}
 use Rattle.std.proofs.Math.Bool.{true}
 use Rattle.std.proofs.lemmas.Bool.{false≢true}
 use mathlib.Core.List.{List, [], ◌∷◌}
-use Rattle.std.proofs.Math.Option.{none}
 use Prim.Native.Nat.{ℕ, zero, suc, ◌+◌}
 use Rattle.std.proofs.Math.Dec.{eqb}
 use Rattle.octets.specs.Pick.{pick, ◌and◌, ◌or◌}
@@ -38,8 +37,6 @@ use Rattle.json_text.specs.declared.Inside.TheVariants.{Chars}
 use Rattle.json_text.specs.declared.State.{State}
 use Rattle.json_text.specs.declared.State.TheVariants.{Expects, InLiteral, InNumber, InString}
 use Rattle.json_text.specs.declared.Move.TheVariants.{To, OpenArray, OpenObject, Close}
-use Rattle.json_text.specs.declared.Checked.{Checked}
-use Rattle.json_text.specs.declared.Checked.TheVariants.{Fine}
 use Rattle.jcal.proofs.laws.CheckedStrings.{Goes, goes, choose, bad_not, to_state, past_ascii, string_text}
 use Rattle.jcal.proofs.laws.CheckedScalars.{apart, no_scalar, scalar_no_space, letters, Behind, number_run, literal_run, scalar_by, opened}
 
@@ -120,12 +117,12 @@ scalar_ascii b h =
     eqb_sign e = or_cases (eqb b 0x2D) _ e (λ k. rw (eqb-true b 0x2D k)) (λ k. rw (eqb-true b 0x2B k))
 
 -- no character goes on behind such bytes
-past_scalars : (s : List ℕ) → first_bad s ≡ none → first_bad (drop (span_len is_scalar s) s) ≡ none
+past_scalars : (s : List ℕ) → first_bad s ≡ None → first_bad (drop (span_len is_scalar s) s) ≡ None
 unfolding span_len pick
 past_scalars [] h = h
 past_scalars (b ∷ s) h = go (is_scalar b) refl (past_scalars s)
   where
-    go : (t : Bool) → is_scalar b ≡ t → (first_bad s ≡ none → first_bad (drop (span_len is_scalar s) s) ≡ none) → first_bad (drop (pick t (suc (span_len is_scalar s)) 0) (b ∷ s)) ≡ none
+    go : (t : Bool) → is_scalar b ≡ t → (first_bad s ≡ None → first_bad (drop (span_len is_scalar s) s) ≡ None) → first_bad (drop (pick t (suc (span_len is_scalar s)) 0) (b ∷ s)) ≡ None
     go true e ih = ih (past_ascii b s (scalar_ascii b e) h)
     go false e ih = h
 
@@ -142,13 +139,13 @@ module _ (limit : ℕ) where
   -- ---- between tokens
 
   -- what a byte between tokens can be
-  record Ways (X : Type 0) (b : ℕ) (cs : List Container) (rest : State → List Container → Checked) : Type 0 where
-    structural : is_structural b ≡ true → (e : Expect) (ds : List Container) → rest (Expects e) ds ≡ Fine → X
-    quote : eqb b 34 ≡ true → (n : Bool) → rest (InString n Chars) cs ≡ Fine → X
-    numeral : is_scalar b ≡ true → (m : Number) → rest (InNumber m) cs ≡ Fine → X
-    letter : is_scalar b ≡ true → (w : ℕ) → letters 4 w ≡ true → rest (InLiteral w) cs ≡ Fine → X
+  record Ways (X : Type 0) (b : ℕ) (cs : List Container) (rest : State → List Container → Option ℕ) : Type 0 where
+    structural : is_structural b ≡ true → (e : Expect) (ds : List Container) → rest (Expects e) ds ≡ None → X
+    quote : eqb b 34 ≡ true → (n : Bool) → rest (InString n Chars) cs ≡ None → X
+    numeral : is_scalar b ≡ true → (m : Number) → rest (InNumber m) cs ≡ None → X
+    letter : is_scalar b ≡ true → (w : ℕ) → letters 4 w ≡ true → rest (InLiteral w) cs ≡ None → X
 
-  module _ {X : Type 0} {i b : ℕ} {cs : List Container} {rest : State → List Container → Checked} (w : Ways X b cs rest) where
+  module _ {X : Type 0} {i b : ℕ} {cs : List Container} {rest : State → List Container → Option ℕ} (w : Ways X b cs rest) where
     open_array : eqb b 91 ≡ true → Goes OpenArray limit i cs rest → X
     unfolding followed
     open_array e k = w.structural (or_right _ _ (or_left _ _ e)) ValueOrEnd _ (opened (ltb (length cs) limit) _ i k.fine)
@@ -235,12 +232,12 @@ module _ (limit : ℕ) where
   unfolding every pick ◌or◌
   quote_tokens s p rest h q = and_yes _ _ (string_textual s p h) q
 
-  text_by : (s : List ℕ) → first_bad ([] ⊕ s) ≡ none → holds 13 s ≡ false → is_text s ≡ true
+  text_by : (s : List ℕ) → first_bad ([] ⊕ s) ≡ None → holds 13 s ≡ false → is_text s ≡ true
   unfolding is_text
   text_by s h p = and_yes _ _ (rw p) (good_well_formed s (rw (append_empty s) at h))
 
   -- k bytes are passed over, which belong to a token before
-  tokens_textual : (s : List ℕ) (k p i : ℕ) (e : Expect) (cs : List Container) → first_bad (drop k s) ≡ none → check (drop k s) limit i (Expects e) cs ≡ Fine → every token_textual (scan s p k) ≡ true
+  tokens_textual : (s : List ℕ) (k p i : ℕ) (e : Expect) (cs : List Container) → first_bad (drop k s) ≡ None → check (drop k s) limit i (Expects e) cs ≡ None → every token_textual (scan s p k) ≡ true
   unfolding scan every
   tokens_textual [] k p i e cs h c = refl
   tokens_textual (b ∷ s) (suc k) p i e cs h c = tokens_textual s k (p + 1) i e cs h c
@@ -253,12 +250,12 @@ module _ (limit : ℕ) where
       }) e (around cs) (goes b s limit i (Expects e) cs c)
     where
       Onward : Type 0
-      Onward = (k j : ℕ) (x : Expect) → first_bad (drop k s) ≡ none → check (drop k s) limit j (Expects x) cs ≡ Fine → every token_textual (scan s (p + 1) k) ≡ true
+      Onward = (k j : ℕ) (x : Expect) → first_bad (drop k s) ≡ None → check (drop k s) limit j (Expects x) cs ≡ None → every token_textual (scan s (p + 1) k) ≡ true
 
       onward : is_scalar b ≡ true → Behind limit s cs → Onward → every token_textual (scan s (p + 1) (span_len is_scalar s)) ≡ true
       onward t l ih = ih (span_len is_scalar s) l.0 After (past_scalars s (past_ascii b s (scalar_ascii b t) h)) l.1
 
-      quoted : eqb b 34 ≡ true → (n : Bool) → check s limit (i + 1) (InString n Chars) cs ≡ Fine → Onward → every token_textual (tokens_by b s p (scan s (p + 1))) ≡ true
+      quoted : eqb b 34 ≡ true → (n : Bool) → check s limit (i + 1) (InString n Chars) cs ≡ None → Onward → every token_textual (tokens_by b s p (scan s (p + 1))) ≡ true
       quoted t n q ih =
           let z = eqb-true b 34 t in
           let g = past_ascii b s (rw z ascii_quote) h in
@@ -266,6 +263,6 @@ module _ (limit : ℕ) where
           subst (λ (x : ℕ). every token_textual (tokens_by x s p (scan s (p + 1))) ≡ true) (sym z)
           (quote_tokens s p (scan s (p + 1)) (text_by (characters s) r.good r.plain) (ih (quoted_length s) r.left.at r.left.expect r.left.good r.left.fine))
 
-  pub value_textual : (s : List ℕ) → first_bad s ≡ none → verdict limit s ≡ Fine → is_textual (value_of s) ≡ true
+  pub value_textual : (s : List ℕ) → first_bad s ≡ None → verdict limit s ≡ None → is_textual (value_of s) ≡ true
   unfolding value_of
   value_textual s h c = first_textual (elements (scan s 0 0) 0) (elements_textual (scan s 0 0) (tokens_textual s 0 0 0 Value [] h c) 0)

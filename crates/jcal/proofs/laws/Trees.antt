@@ -2,9 +2,8 @@
 --     value_tree, parameter_member, property_tree, components_tree  of each part
 --     calendar_tree                                               of a calendar
 --     calendar_written                                            written, it is the canonical jCal
-use Rattle.std.specs.Prelude.{◌≡◌, refl, List, [], ◌∷◌, map, ℕ}
+use Rattle.std.specs.Prelude.{◌≡◌, refl, List, [], ◌∷◌, map, ℕ, Option, None, Some}
 use Rattle.std.proofs.Common.{ap}
-use Rattle.std.proofs.Math.Option.{Option, none, some}
 use Rattle.octets.specs.Class.{lower}
 use Rattle.calendar.specs.Calendar.{xcal, RuleItem, moment, number, word, weekday, RulePart, Value, binary, boolean, cal_address, date, date_time, duration, float, integer, period_explicit, period_start, recur, text, time, uri, utc_offset, unknown, geo, request_status, Parameter, Property, Components, no_more, component}
 use Rattle.schema.specs.Types.{type_name}
@@ -68,8 +67,8 @@ abbrev pub part_member : RulePart → Member
 part_member p = record { name = lower p.part; value = one_or_arr (map item_tree p.items) }
 
 abbrev pub data_tree : Option (List ℕ) → List Json
-data_tree none = []
-data_tree (some s) = str s ∷ []
+data_tree None = []
+data_tree (Some s) = str s ∷ []
 
 unfoldable pub value_tree : Value → Json
 value_tree (binary s) = str (value_characters (binary s))
@@ -164,8 +163,8 @@ value_written (uri s) = refl
 value_written (utc_offset s) = refl
 value_written (unknown s) = refl
 value_written (geo la lo) = refl
-value_written (request_status c d none) = refl
-value_written (request_status c d (some x)) = refl
+value_written (request_status c d None) = refl
+value_written (request_status c d (Some x)) = refl
 
 parameter_written : (p : Parameter) → member_of (parameter_member p).name (written (parameter_member p).value) ≡ parameter_json p
 unfolding parameter_json written

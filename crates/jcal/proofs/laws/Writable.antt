@@ -1,9 +1,8 @@
 -- The JSON value of a valid calendar can be written: its strings are text, its numbers are such, and not too much stands inside one another.
 --     calendar_writable
-use Rattle.std.specs.Prelude.{◌≡◌, refl, Bool, true, false, List, [], ◌∷◌, map, ℕ, zero, suc, ◌+◌, ◌-◌, ◌*◌, ◌^◌, ◌≤◌, ◌<◌, leb}
+use Rattle.std.specs.Prelude.{◌≡◌, refl, Bool, true, false, List, [], ◌∷◌, map, ℕ, zero, suc, ◌+◌, ◌-◌, ◌*◌, ◌^◌, ◌≤◌, ◌<◌, leb, Option, None, Some}
 use Rattle.std.proofs.Common.{sym, ap, ◌∙◌, arith, ltb-true, leb-true}
 use Rattle.std.proofs.lemmas.Bool.{false≢true}
-use Rattle.std.proofs.Math.Option.{Option, none, some}
 use Rattle.octets.specs.Ascii.{ascii}
 use Rattle.octets.specs.Pick.{pick, ◌and◌, within}
 use Rattle.octets.specs.laws.Pick.{and_both, and_yes, pick_second, within_range}
@@ -123,8 +122,8 @@ item_small : (n : List ℕ) (w : Whole) → is_item n (number w) ≡ true → w.
 item_small n w h = go (part_of n) refl h
   where
     go : (o : Option Part) → part_of n ≡ o → is_for o (number w) ≡ true → w.magnitude < 10 ^ 10
-    go none e k = absurd (false≢true k)
-    go (some r) e k =
+    go None e k = absurd (false≢true k)
+    go (Some r) e k =
         let a = number_most r.form w k in
         let b = leb-true (form_most r.form) 2147483647 (row_passes (λ (r : Part). r.name) n (λ (r : Part). leb (form_most r.form) 2147483647) part_table r rows_most e) in
         omega arith
@@ -144,8 +143,8 @@ part_name_lem : (n : List ℕ) (i : RuleItem) → is_item n i ≡ true → is_te
 part_name_lem n i h = go (part_of n) refl h
   where
     go : (o : Option Part) → part_of n ≡ o → is_for o i ≡ true → is_text (lower n) ≡ true
-    go none e k = absurd (false≢true k)
-    go (some r) e k =
+    go None e k = absurd (false≢true k)
+    go (Some r) e k =
         ap (λ (x : List ℕ). is_text (lower x)) (sym (row_named (λ (r : Part). r.name) n part_table r e))
         ∙ clean_text _ (visible_clean _ (row_passes (λ (r : Part). r.name) n (λ (r : Part). all_of is_visible (lower r.name)) part_table r rows_text e))
 
@@ -199,8 +198,8 @@ value_writable d (uri s) h k = clean_text _ (data_clean (uri s) refl h k)
 value_writable d (utc_offset s) h k = clean_text _ (data_clean (utc_offset s) refl h k)
 value_writable d (unknown s) h k = clean_text _ (data_clean (unknown s) refl h k)
 value_writable d (geo la lo) h k = let a = and_both (is_normal la) (is_normal lo) h in rw (float_number la a.0, float_number lo a.1)
-value_writable d (request_status c x none) h k = let a = clean_status c x none k in rw (clean_text c a.0, clean_text x a.1)
-value_writable d (request_status c x (some s)) h k = let a = clean_status c x (some s) k in rw (clean_text c a.0, clean_text x a.1, clean_text s a.2)
+value_writable d (request_status c x None) h k = let a = clean_status c x None k in rw (clean_text c a.0, clean_text x a.1)
+value_writable d (request_status c x (Some s)) h k = let a = clean_status c x (Some s) k in rw (clean_text c a.0, clean_text x a.1, clean_text s a.2)
 
 -- ---- parameters and properties
 

@@ -1,7 +1,7 @@
 -- A text of the grammar whose strings name only what they may is accepted.
 --     Accepts          the check of s, in a state and inside what is open, finds no fault, wherever s stands
 --     text_accepted    a text is accepted
-use Rattle.std.specs.Prelude.{◌≡◌, Bool, not, ℕ, ◌+◌, length}
+use Rattle.std.specs.Prelude.{◌≡◌, Bool, not, ℕ, ◌+◌, length, None}
 use Rattle.std.proofs.Math.Path.{refl}
 use Rattle.std.proofs.Common.{◌∙◌}
 use Rattle.std.proofs.Math.Bool.{true, false}
@@ -16,13 +16,12 @@ use Rattle.json_text.specs.Check.{Container, check, followed, named, low_pair, v
 use Rattle.json_text.specs.declared.Inside.TheVariants.{Chars, High}
 use Rattle.json_text.specs.declared.State.{State}
 use Rattle.json_text.specs.declared.State.TheVariants.{InString}
-use Rattle.json_text.specs.declared.Checked.TheVariants.{Fine}
 use Rattle.json_grammar.specs.Grammar.{Byte, is_hexdig, Char, unescaped, escaped, escaped_unit, spelled_chars, code_unit, may_name_unit, may_name, JsonText}
 use Rattle.json_grammar.proofs.laws.Steps.{not-false, unit_on, escape_steps, plain_step, two_step}
 use Rattle.json_grammar.proofs.laws.Onward.{Onward, Strings, text_on}
 
 abbrev pub Accepts : ℕ → State → List Container → List ℕ → Type 0
-Accepts limit st cs s = (i : ℕ) → check s limit i st cs ≡ Fine
+Accepts limit st cs s = (i : ℕ) → check s limit i st cs ≡ None
 
 pub accepts_onward : (limit : ℕ) → Onward limit (Accepts limit)
 accepts_onward limit = record {
@@ -47,16 +46,16 @@ module _ (limit : ℕ) (cs : List Container) (n : Bool) where
 
     behind_unit : (v : ℕ) (us : List Char) (from i : ℕ) → may_name_unit false v (may_name us) ≡ true →
         (may_name us true ≡ true → AcceptsIn true (spelled_chars us ⊕ (34 ∷ r))) → (may_name us false ≡ true → AcceptsIn false (spelled_chars us ⊕ (34 ∷ r))) →
-        followed (named n from v) limit i cs (check (spelled_chars us ⊕ (34 ∷ r)) limit (i + 1)) ≡ Fine
+        followed (named n from v) limit i cs (check (spelled_chars us ⊕ (34 ∷ r)) limit (i + 1)) ≡ None
     unfolding followed pick
     behind_unit v us from i m f g = go (is_high v) refl m
       where
-        go : (t : Bool) → is_high v ≡ t → pick t (may_name us true) (not (named_bad v) and may_name us false) ≡ true → followed (named n from v) limit i cs (check (spelled_chars us ⊕ (34 ∷ r)) limit (i + 1)) ≡ Fine
+        go : (t : Bool) → is_high v ≡ t → pick t (may_name us true) (not (named_bad v) and may_name us false) ≡ true → followed (named n from v) limit i cs (check (spelled_chars us ⊕ (34 ∷ r)) limit (i + 1)) ≡ None
         go true e m = rw e (f m from (i + 1))
         go false e m = let q = and_both (not (named_bad v)) _ m in rw (e, not-false (named_bad v) q.0) (g q.1 (i + 1))
 
     behind_low : (v : ℕ) (us : List Char) (from i : ℕ) → is_low v ≡ true → AcceptsIn false (spelled_chars us ⊕ (34 ∷ r)) →
-        followed (low_pair n from v) limit i cs (check (spelled_chars us ⊕ (34 ∷ r)) limit (i + 1)) ≡ Fine
+        followed (low_pair n from v) limit i cs (check (spelled_chars us ⊕ (34 ∷ r)) limit (i + 1)) ≡ None
     unfolding followed pick
     behind_low v us from i m g = rw m (g (i + 1))
 
@@ -87,7 +86,7 @@ module _ (limit : ℕ) (cs : List Container) (n : Bool) where
 pub strings_accepted : (limit : ℕ) → Strings (Accepts limit) (λ us. may_name us false)
 strings_accepted limit n cs us m r h = chars_on limit cs n r h us false m
 
-pub text_accepted : (limit : ℕ) (s : List ℕ) → JsonText limit s → verdict limit s ≡ Fine
+pub text_accepted : (limit : ℕ) (s : List ℕ) → JsonText limit s → verdict limit s ≡ None
 unfolding check
 text_accepted limit s t =
     rw t.is (text_on limit (Accepts limit) (accepts_onward limit) (λ us. may_name us false) (strings_accepted limit) t.text t.deep t.names (λ i. refl) 0)

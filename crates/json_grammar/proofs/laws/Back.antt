@@ -1,13 +1,12 @@
 -- A byte back: what completes a text behind a move completes it, with the byte before it, from the state that the move was made in.
 --     Naming        what is asked of N
 --     step_back     the law for all states
-use Rattle.std.specs.Prelude.{◌≡◌, Bool, ℕ, ◌+◌, ◌-◌, ◌/◌, ◌%◌, ◌≤◌, ◌<◌, eqb, ltb, length}
+use Rattle.std.specs.Prelude.{◌≡◌, Bool, ℕ, ◌+◌, ◌-◌, ◌/◌, ◌%◌, ◌≤◌, ◌<◌, eqb, ltb, length, None, Some}
 use Rattle.std.proofs.Math.Path.{refl, ap}
 use Rattle.std.proofs.Common.{sym, subst, ◌∙◌, inl, inr, le-leb, eqb-true, ltb-false}
 use Rattle.std.proofs.Math.Bool.{true, false}
 use Rattle.std.proofs.lemmas.Bool.{false≢true, eqb-false}
 use mathlib.Core.List.{List, [], ◌∷◌}
-use Rattle.std.proofs.Math.Option.{none, some}
 use native.Mathlib.Omega.{arith}
 use Rattle.std.proofs.Math.Decide.{dec_le}
 use Rattle.octets.specs.Ascii.{ascii}
@@ -230,11 +229,11 @@ module _ (limit : ℕ) (N : List Char → Bool → Bool) where
   module _ {R : List ℕ → Type 0} where
     no_fraction : (s : List ℕ) → Exponent limit N R s → Fraction limit N R s
     unfolding optional ◌⊕◌
-    no_fraction s t = record { it = none; rest = s; is = refl; on = t }
+    no_fraction s t = record { it = None; rest = s; is = refl; on = t }
 
     no_exponent : (s : List ℕ) → R s → Exponent limit N R s
     unfolding optional ◌⊕◌
-    no_exponent s t = record { it = none; rest = s; is = refl; on = t }
+    no_exponent s t = record { it = None; rest = s; is = refl; on = t }
 
     no_digits : (s : List ℕ) → R s → Then spelled_digit R s
     unfolding spelled_bytes ◌⊕◌
@@ -250,20 +249,20 @@ module _ (limit : ℕ) (N : List Char → Bool → Bool) where
 
     no_sign : (s : List ℕ) → R s → Then (optional spelled_sign) R s
     unfolding optional ◌⊕◌
-    no_sign s t = record { it = none; rest = s; is = refl; on = t }
+    no_sign s t = record { it = None; rest = s; is = refl; on = t }
 
     one_sign : (b : ℕ) → is_sign b ≡ true → (s : List ℕ) → R s → Then (optional spelled_sign) R (b ∷ s)
     unfolding optional ◌⊕◌
-    one_sign b e s t = record { it = some (record { byte = b; passes = e }); rest = s; is = refl; on = t }
+    one_sign b e s t = record { it = Some (record { byte = b; passes = e }); rest = s; is = refl; on = t }
 
     a_fraction : (s : List ℕ) → Then spelled_digits (Exponent limit N R) s → Fraction limit N R (46 ∷ s)
     unfolding optional ◌⊕◌
-    a_fraction s t = record { it = some t.it; rest = t.rest; is = ap (λ (l : List ℕ). 46 ∷ l) t.is; on = t.on }
+    a_fraction s t = record { it = Some t.it; rest = t.rest; is = ap (λ (l : List ℕ). 46 ∷ l) t.is; on = t.on }
 
     an_exponent : (b : ℕ) → is_e b ≡ true → (s : List ℕ) → Then (optional spelled_sign) (Then spelled_digits R) s → Exponent limit N R (b ∷ s)
     unfolding optional ◌⊕◌
     an_exponent b e s t = record {
-      it = some (record { e = record { byte = b; passes = e }; sign = t.it; digits = t.on.it });
+      it = Some (record { e = record { byte = b; passes = e }; sign = t.it; digits = t.on.it });
       rest = t.on.rest;
       is = ap (λ (l : List ℕ). b ∷ l) (join (optional spelled_sign t.it) (spelled_digits t.on.it) _ t.is t.on.is);
       on = t.on.on;

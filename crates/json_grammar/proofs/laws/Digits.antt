@@ -1,6 +1,6 @@
 -- Among the digits of an escape: they can go on to name what they may, or never can.
 --     hexes     one of the two, for each state
-use Rattle.std.specs.Prelude.{◌≡◌, ◌⊎◌, Bool, ℕ, zero, suc, ◌+◌, ◌-◌, ◌%◌, ◌≤◌, ◌<◌}
+use Rattle.std.specs.Prelude.{◌≡◌, ◌⊎◌, Bool, ℕ, zero, suc, ◌+◌, ◌-◌, ◌%◌, ◌≤◌, ◌<◌, None, Some}
 use Rattle.std.proofs.Math.Path.{refl}
 use Rattle.std.proofs.Common.{sym, ◌∙◌, inl, inr, arith, le-leb, eqb-true}
 use Rattle.std.proofs.Math.Bool.{true, false}
@@ -15,7 +15,6 @@ use Rattle.json_text.specs.Check.{Container, check, followed, named}
 use Rattle.json_text.specs.declared.Inside.TheVariants.{Chars, Escape, Hex, High, HighEscape, Low}
 use Rattle.json_text.specs.declared.State.{State}
 use Rattle.json_text.specs.declared.State.TheVariants.{Expects, InLiteral, InNumber, InString}
-use Rattle.json_text.specs.declared.Checked.TheVariants.{Fine, At}
 use Rattle.json_grammar.specs.Grammar.{is_hexdig}
 use Rattle.json_grammar.proofs.laws.Steps.{fault_not_fine, hexdig_value, hex_step, hex_last}
 use Rattle.json_grammar.proofs.laws.Back.{hexdig_is}
@@ -52,7 +51,7 @@ bad_any v d (inr (l, m)) h = (
 module _ (limit : ℕ) (n : Bool) (from : ℕ) (cs : List Container) where
   -- ---- never
 
-  never_last : (v : ℕ) → Bad3 v → (i : ℕ) (t : List ℕ) → check t limit i (InString n (Hex from 0 v)) cs ≡ Fine → ⊥
+  never_last : (v : ℕ) → Bad3 v → (i : ℕ) (t : List ℕ) → check t limit i (InString n (Hex from 0 v)) cs ≡ None → ⊥
   unfolding check followed pick
   never_last v z i [] h = fault_not_fine i h
   never_last v z i (b ∷ t) h = go (eqb (hex_value b) 16) refl
@@ -62,10 +61,10 @@ module _ (limit : ℕ) (n : Bool) (from : ℕ) (cs : List Container) where
       go false e =
           let x = hexdig_is b e in
           let q = bad_any v (hex_value b) z (hexdig_value b x) in
-          let f : followed (named n from (grown v (hex_value b))) limit i cs (check t limit (i + 1)) ≡ At from = rw (q.0, q.1) in
+          let f : followed (named n from (grown v (hex_value b))) limit i cs (check t limit (i + 1)) ≡ Some from = rw (q.0, q.1) in
           fault_not_fine from (sym ((hex_last limit cs n from v b x i t).0 ∙ f) ∙ h)
 
-  never_two : (v : ℕ) → (0xDC ≤ v % 256) × (v % 256 ≤ 0xDF) → (i : ℕ) (t : List ℕ) → check t limit i (InString n (Hex from 1 v)) cs ≡ Fine → ⊥
+  never_two : (v : ℕ) → (0xDC ≤ v % 256) × (v % 256 ≤ 0xDF) → (i : ℕ) (t : List ℕ) → check t limit i (InString n (Hex from 1 v)) cs ≡ None → ⊥
   unfolding check followed pick
   never_two v z i [] h = fault_not_fine i h
   never_two v z i (b ∷ t) h = go (eqb (hex_value b) 16) refl

@@ -1,7 +1,7 @@
 -- A text of the grammar is accepted, or its fault is at an escape.
 --     Fair             from a state on no fault is found, or one at a byte with which a text can go on
 --     grammar_fair     so it is with each text of the grammar
-use Rattle.std.specs.Prelude.{◌≡◌, ◌⊎◌, Bool, ℕ, suc, ◌+◌, ◌<◌, eqb, length, take}
+use Rattle.std.specs.Prelude.{◌≡◌, ◌⊎◌, Bool, ℕ, suc, ◌+◌, ◌<◌, eqb, length, take, None, Some}
 use Rattle.std.proofs.Math.Path.{refl, ap}
 use Rattle.std.proofs.Common.{sym, ◌∙◌, inl, eqb-true}
 use Rattle.std.proofs.Math.Logic.{inr}
@@ -18,7 +18,6 @@ use Rattle.json_text.specs.declared.Expect.TheVariants.{Value}
 use Rattle.json_text.specs.declared.Inside.TheVariants.{Chars, Escape, High}
 use Rattle.json_text.specs.declared.State.{State}
 use Rattle.json_text.specs.declared.State.TheVariants.{Expects, InString}
-use Rattle.json_text.specs.declared.Checked.TheVariants.{Fine, At}
 use Rattle.json_grammar.specs.Grammar as grammar
 use Rattle.json_grammar.specs.Grammar.{Byte, is_unescaped, is_escaped, is_hexdig, Char, unescaped, escaped, escaped_unit, spelled_chars, literal, empty_object, object, empty_array, array, number, string, Member, member, Members, no_members, and_member, Values, no_values, and_value, code_unit, every_string, every_string_member, every_string_members, every_string_values, GrammarText}
 use Rattle.json_grammar.proofs.laws.Steps.{unit_on, escape_steps, plain_step, two_step}
@@ -29,12 +28,12 @@ use Rattle.json_grammar.proofs.laws.Ready.{ready_string}
 pub record Later (limit : ℕ) (st : State) (cs : List Container) (i : ℕ) (s : List ℕ) : Type 0 where
   pub p : ℕ
   pub inside : p < length s
-  pub at : check s limit i st cs ≡ At (i + p)
+  pub at : check s limit i st cs ≡ Some (i + p)
   pub tail : List ℕ
-  pub goes : check (take (p + 1) s ⊕ tail) limit i st cs ≡ Fine
+  pub goes : check (take (p + 1) s ⊕ tail) limit i st cs ≡ None
 
 abbrev pub Fair : ℕ → State → List Container → List ℕ → Type 0
-Fair limit st cs s = (i : ℕ) → (check s limit i st cs ≡ Fine) ⊎ Later limit st cs i s
+Fair limit st cs s = (i : ℕ) → (check s limit i st cs ≡ None) ⊎ Later limit st cs i s
 
 take_behind : (l s : List ℕ) (m : ℕ) → take (length l + m) (l ⊕ s) ≡ l ⊕ take m s
 unfolding ◌⊕◌
@@ -46,7 +45,7 @@ module _ (limit : ℕ) where
       (s : List ℕ) → Fair limit st' cs' s → Fair limit st cs (l ⊕ s)
   fair_chunk l st st' cs cs' f s h i = go (h (i + length l))
     where
-      go : (check s limit (i + length l) st' cs' ≡ Fine) ⊎ Later limit st' cs' (i + length l) s → (check (l ⊕ s) limit i st cs ≡ Fine) ⊎ Later limit st cs i (l ⊕ s)
+      go : (check s limit (i + length l) st' cs' ≡ None) ⊎ Later limit st' cs' (i + length l) s → (check (l ⊕ s) limit i st cs ≡ None) ⊎ Later limit st cs i (l ⊕ s)
       go (inl e) = inl (f i s ∙ e)
       go (inr x) =
           let j : i + length l + x.p ≡ i + (length l + x.p) = omega arith in
@@ -54,7 +53,7 @@ module _ (limit : ℕ) where
           inr (record {
             p = length l + x.p;
             inside = omega (arith, x.inside, length_both l s);
-            at = f i s ∙ x.at ∙ ap (λ (m : ℕ). At m) j;
+            at = f i s ∙ x.at ∙ ap (λ (m : ℕ). Some m) j;
             tail = x.tail;
             goes = rw (k, take_behind l s (x.p + 1), append_regroup l (take (x.p + 1) s) x.tail) (f i (take (x.p + 1) s ⊕ x.tail) ∙ x.goes);
           })
@@ -65,7 +64,7 @@ module _ (limit : ℕ) where
   fair_same : (st st' : State) (cs : List Container) (b : ℕ) → ((i : ℕ) (u : List ℕ) → check (b ∷ u) limit i st cs ≡ check (b ∷ u) limit i st' cs) → (s : List ℕ) → Fair limit st' cs (b ∷ s) → Fair limit st cs (b ∷ s)
   fair_same st st' cs b f s h i = go (h i)
     where
-      go : (check (b ∷ s) limit i st' cs ≡ Fine) ⊎ Later limit st' cs i (b ∷ s) → (check (b ∷ s) limit i st cs ≡ Fine) ⊎ Later limit st cs i (b ∷ s)
+      go : (check (b ∷ s) limit i st' cs ≡ None) ⊎ Later limit st' cs i (b ∷ s) → (check (b ∷ s) limit i st cs ≡ None) ⊎ Later limit st cs i (b ∷ s)
       go (inl e) = inl (f i s ∙ e)
       go (inr x) = inr (record {
         p = x.p;
@@ -78,14 +77,14 @@ module _ (limit : ℕ) where
   fair_ends : (st st' : State) (cs : List Container) → ((i : ℕ) → check [] limit i st cs ≡ check [] limit i st' cs) → Fair limit st' cs [] → Fair limit st cs []
   fair_ends st st' cs f h i = go (h i)
     where
-      go : (check [] limit i st' cs ≡ Fine) ⊎ Later limit st' cs i [] → (check [] limit i st cs ≡ Fine) ⊎ Later limit st cs i []
+      go : (check [] limit i st' cs ≡ None) ⊎ Later limit st' cs i [] → (check [] limit i st cs ≡ None) ⊎ Later limit st cs i []
       go (inl e) = inl (f i ∙ e)
       go (inr x) = absurd (omega (arith, x.inside))
 
-  fair_first : (st : State) (cs : List Container) (b : ℕ) (s : List ℕ) → Fair limit st cs (b ∷ s) → (u : List ℕ) × (check (b ∷ u) limit 0 st cs ≡ Fine)
+  fair_first : (st : State) (cs : List Container) (b : ℕ) (s : List ℕ) → Fair limit st cs (b ∷ s) → (u : List ℕ) × (check (b ∷ u) limit 0 st cs ≡ None)
   fair_first st cs b s h = go (h 0)
     where
-      go : (check (b ∷ s) limit 0 st cs ≡ Fine) ⊎ Later limit st cs 0 (b ∷ s) → (u : List ℕ) × (check (b ∷ u) limit 0 st cs ≡ Fine)
+      go : (check (b ∷ s) limit 0 st cs ≡ None) ⊎ Later limit st cs 0 (b ∷ s) → (u : List ℕ) × (check (b ∷ u) limit 0 st cs ≡ None)
       go (inl e) = (s, e)
       go (inr x) = (take x.p s ⊕ x.tail, rw (take_one b s x.tail x.p) at x.goes)
 
@@ -99,14 +98,14 @@ module _ (limit : ℕ) where
     in_chars = InString n Chars
 
     -- an escape that names what it may not
-    at_escape : (s : List ℕ) → ((i : ℕ) → check (92 ∷ s) limit i in_chars cs ≡ At i) → Fair limit in_chars cs (92 ∷ s)
+    at_escape : (s : List ℕ) → ((i : ℕ) → check (92 ∷ s) limit i in_chars cs ≡ Some i) → Fair limit in_chars cs (92 ∷ s)
     unfolding check followed pick ◌⊕◌
     at_escape s f i =
         let g = ready_string limit n (Escape i) tt cs in
         let j : i + 0 ≡ i = omega arith in
-        inr (record { p = 0; inside = omega arith; at = f i ∙ ap (λ (k : ℕ). At k) (sym j); tail = g.0; goes = g.1 (i + 1) })
+        inr (record { p = 0; inside = omega arith; at = f i ∙ ap (λ (k : ℕ). Some k) (sym j); tail = g.0; goes = g.1 (i + 1) })
 
-    two_bad : (b : Byte is_escaped) → names_bad b.byte ≡ true → (i : ℕ) (s : List ℕ) → check (92 ∷ b.byte ∷ s) limit i in_chars cs ≡ At i
+    two_bad : (b : Byte is_escaped) → names_bad b.byte ≡ true → (i : ℕ) (s : List ℕ) → check (92 ∷ b.byte ∷ s) limit i in_chars cs ≡ Some i
     unfolding check followed pick ◌and◌ ◌or◌
     two_bad b h i s =
         or_cases (eqb b.byte 0x62) _ h (λ e. rw (eqb-true b.byte 0x62 e))
@@ -114,8 +113,8 @@ module _ (limit : ℕ) where
 
     -- behind a high surrogate: what is no escape of digits
     high_bad : (from : ℕ) →
-        ((b : ℕ) (i : ℕ) (s : List ℕ) → eqb b 92 ≡ false → check (b ∷ s) limit i (InString n (High from)) cs ≡ At from)
-        × ((b : ℕ) (i : ℕ) (s : List ℕ) → eqb b 117 ≡ false → check (92 ∷ b ∷ s) limit i (InString n (High from)) cs ≡ At from)
+        ((b : ℕ) (i : ℕ) (s : List ℕ) → eqb b 92 ≡ false → check (b ∷ s) limit i (InString n (High from)) cs ≡ Some from)
+        × ((b : ℕ) (i : ℕ) (s : List ℕ) → eqb b 117 ≡ false → check (92 ∷ b ∷ s) limit i (InString n (High from)) cs ≡ Some from)
     unfolding check followed pick
     high_bad from = (λ b i s e. rw e, λ b i s e. rw e)
 
@@ -136,7 +135,7 @@ module _ (limit : ℕ) where
           let j : i + 1 + 1 + 1 + 1 + 1 + 1 ≡ i + 6 = omega arith in
           (escape_steps limit cs n 0 i _).0 ∙ (unit_on limit cs n a b c d i (i + 1 + 1) s).0 ∙ rw (e, j)
 
-      unit_bad : is_high unit_of ≡ false → named_bad unit_of ≡ true → (i : ℕ) (s : List ℕ) → check (bytes_of s) limit i in_chars cs ≡ At i
+      unit_bad : is_high unit_of ≡ false → named_bad unit_of ≡ true → (i : ℕ) (s : List ℕ) → check (bytes_of s) limit i in_chars cs ≡ Some i
       unfolding followed pick
       unit_bad e f i s = (escape_steps limit cs n 0 i _).0 ∙ (unit_on limit cs n a b c d i (i + 1 + 1) s).0 ∙ rw (e, f)
 
@@ -152,7 +151,7 @@ module _ (limit : ℕ) where
           let j : i + 1 + 1 + 1 + 1 + 1 + 1 ≡ i + 6 = omega arith in
           (escape_steps limit cs n from i _).1 ∙ (unit_on limit cs n a b c d from (i + 1 + 1) s).1 ∙ rw (e, j)
 
-      low_bad : is_low unit_of ≡ false → (from i : ℕ) (s : List ℕ) → check (bytes_of s) limit i (InString n (High from)) cs ≡ At from
+      low_bad : is_low unit_of ≡ false → (from i : ℕ) (s : List ℕ) → check (bytes_of s) limit i (InString n (High from)) cs ≡ Some from
       unfolding followed pick
       low_bad e from i s = (escape_steps limit cs n from i _).1 ∙ (unit_on limit cs n a b c d from (i + 1 + 1) s).1 ∙ rw e
 
@@ -225,7 +224,7 @@ mutual
   any_values no_values = refl
   any_values (and_value c v vs) = rw (any_value v) (any_values vs)
 
-pub grammar_fair : (most : ℕ) (s : List ℕ) → GrammarText most s → (verdict most s ≡ Fine) ⊎ Later most (Expects Value) [] 0 s
+pub grammar_fair : (most : ℕ) (s : List ℕ) → GrammarText most s → (verdict most s ≡ None) ⊎ Later most (Expects Value) [] 0 s
 unfolding check
 grammar_fair most s t =
     rw t.is (text_on most (Fair most) (fair_onward most) (λ us. true) (strings_fair most) t.text t.deep (any_value t.text.value) (λ i. inl refl) 0)

@@ -3,12 +3,11 @@
 --     Strings     that it holds over the characters of a string that are good
 --     value_on    then it holds from where a value must come on, if it holds behind the value
 --     text_on     and of a whole text
-use Rattle.std.specs.Prelude.{◌≡◌, Bool, eqb, length}
+use Rattle.std.specs.Prelude.{◌≡◌, Bool, eqb, length, Option, None, Some}
 use Rattle.std.proofs.Math.Path.{refl, ap}
 use Rattle.std.proofs.Common.{◌∙◌}
 use Rattle.std.proofs.Math.Bool.{true, false}
 use mathlib.Core.List.{List, [], ◌∷◌}
-use Rattle.std.proofs.Math.Option.{Option, none, some}
 use Prim.Native.Nat.{ℕ, ◌+◌, ◌≤◌}
 use native.Mathlib.Omega.{arith}
 use Rattle.octets.specs.Ascii.{ascii}
@@ -27,7 +26,6 @@ use Rattle.json_text.specs.declared.Number.TheVariants.{Minus, Zero, Int, Point,
 use Rattle.json_text.specs.declared.Inside.TheVariants.{Chars}
 use Rattle.json_text.specs.declared.State.{State}
 use Rattle.json_text.specs.declared.State.TheVariants.{Expects, InNumber, InString}
-use Rattle.json_text.specs.declared.Checked.TheVariants.{Fine}
 use Rattle.json_grammar.specs.Grammar as grammar
 use Rattle.json_grammar.specs.Grammar.{Byte, spelled_bytes, optional, Ws, Structural, structural, Literal, false_name, null_name, true_name, spelled_literal, Digits, spelled_digits, spelled_sign, spelled_exp, spelled_frac, is_digit1_9, zero_int, digits_int, spelled_int, spelled_number, Char, spelled_chars, spelled_string, literal, empty_object, object, empty_array, array, number, string, Member, member, Members, no_members, and_member, Values, no_values, and_value, spelled_value, spelled_member, spelled_members, spelled_values, Text, spelled_text, depth, depth_member, depth_members, depth_values, every_string, every_string_member, every_string_members, every_string_values}
 use Rattle.json_grammar.proofs.laws.Steps.{space_step, opens_array, opens_object, marks, not_after, digit_steps, e_steps, point_steps, sign_step, zero_steps, digit1_9_steps, quote_steps}
@@ -41,7 +39,7 @@ pub record Onward (limit : ℕ) (A : State → List Container → List ℕ → T
   pub same : (st st' : State) (cs : List Container) (b : ℕ) → ((i : ℕ) (u : List ℕ) → check (b ∷ u) limit i st cs ≡ check (b ∷ u) limit i st' cs) → (s : List ℕ) → A st' cs (b ∷ s) → A st cs (b ∷ s)
   pub ends : (st st' : State) (cs : List Container) → ((i : ℕ) → check [] limit i st cs ≡ check [] limit i st' cs) → A st' cs [] → A st cs []
   -- a first byte can stand there
-  pub first : (st : State) (cs : List Container) (b : ℕ) (s : List ℕ) → A st cs (b ∷ s) → (u : List ℕ) × (check (b ∷ u) limit 0 st cs ≡ Fine)
+  pub first : (st : State) (cs : List Container) (b : ℕ) (s : List ℕ) → A st cs (b ∷ s) → (u : List ℕ) × (check (b ∷ u) limit 0 st cs ≡ None)
 
 abbrev pub Strings : (State → List Container → List ℕ → Type 0) → (List Char → Bool) → Type 0
 Strings A good = (n : Bool) (cs : List Container) (us : List Char) → good us ≡ true → (r : List ℕ) → A (InString n Chars) cs (34 ∷ r) → A (InString n Chars) cs (spelled_chars us ⊕ (34 ∷ r))
@@ -109,7 +107,7 @@ module _ (limit : ℕ) (A : State → List Container → List ℕ → Type 0) (l
       law.same (InNumber Exp) (Expects After) cs b (λ i u. rw digit) s h,
     )
       where
-        q : (u : List ℕ) × (check (b ∷ u) limit 0 (Expects After) cs ≡ Fine)
+        q : (u : List ℕ) × (check (b ∷ u) limit 0 (Expects After) cs ≡ None)
         q = law.first (Expects After) cs b s h
 
         digit : is_digit b ≡ false
@@ -137,15 +135,15 @@ module _ (limit : ℕ) (A : State → List Container → List ℕ → Type 0) (l
       -- behind e
       exponent_on : (o : Option (Byte is_sign)) (d : Digits) → A (InNumber E) cs ((optional spelled_sign o ⊕ spelled_digits d) ⊕ r)
       unfolding optional ◌⊕◌
-      exponent_on none d = step d.first.byte (InNumber E) (InNumber Exp) cs cs (λ i u. (digit_steps limit cs d.first.byte d.first.passes i u).3) _ (exp_digits d.more)
-      exponent_on (some b) d =
+      exponent_on None d = step d.first.byte (InNumber E) (InNumber Exp) cs cs (λ i u. (digit_steps limit cs d.first.byte d.first.passes i u).3) _ (exp_digits d.more)
+      exponent_on (Some b) d =
           step b.byte (InNumber E) (InNumber Sign) cs cs (sign_step limit cs b.byte b.passes) _
           (step d.first.byte (InNumber Sign) (InNumber Exp) cs cs (λ i u. (digit_steps limit cs d.first.byte d.first.passes i u).4) _ (exp_digits d.more))
 
       exp_on : (x : Option grammar.Exp) → A (InNumber Zero) cs (optional spelled_exp x ⊕ r) × A (InNumber Int) cs (optional spelled_exp x ⊕ r) × A (InNumber Frac) cs (optional spelled_exp x ⊕ r)
       unfolding optional ◌⊕◌
-      exp_on none = let q = ends_number r h in (q.0, q.1, q.2)
-      exp_on (some x) = (
+      exp_on None = let q = ends_number r h in (q.0, q.1, q.2)
+      exp_on (Some x) = (
         step x.e.byte (InNumber Zero) (InNumber E) cs cs (λ i u. (e_steps limit cs x.e.byte x.e.passes i u).0) _ (exponent_on x.sign x.digits),
         step x.e.byte (InNumber Int) (InNumber E) cs cs (λ i u. (e_steps limit cs x.e.byte x.e.passes i u).1) _ (exponent_on x.sign x.digits),
         step x.e.byte (InNumber Frac) (InNumber E) cs cs (λ i u. (e_steps limit cs x.e.byte x.e.passes i u).2) _ (exponent_on x.sign x.digits),
@@ -154,8 +152,8 @@ module _ (limit : ℕ) (A : State → List Container → List ℕ → Type 0) (l
       frac_on : (f : Option Digits) (x : Option grammar.Exp) →
           A (InNumber Zero) cs (optional spelled_frac f ⊕ (optional spelled_exp x ⊕ r)) × A (InNumber Int) cs (optional spelled_frac f ⊕ (optional spelled_exp x ⊕ r))
       unfolding optional ◌⊕◌
-      frac_on none x = let q = exp_on x in (q.0, q.1)
-      frac_on (some d) x = (step 46 (InNumber Zero) (InNumber Point) cs cs (λ i u. (point_steps limit cs i u).0) _ behind, step 46 (InNumber Int) (InNumber Point) cs cs (λ i u. (point_steps limit cs i u).1) _ behind)
+      frac_on None x = let q = exp_on x in (q.0, q.1)
+      frac_on (Some d) x = (step 46 (InNumber Zero) (InNumber Point) cs cs (λ i u. (point_steps limit cs i u).0) _ behind, step 46 (InNumber Int) (InNumber Point) cs cs (λ i u. (point_steps limit cs i u).1) _ behind)
         where
           behind : A (InNumber Point) cs (spelled_digits d ⊕ (optional spelled_exp x ⊕ r))
           behind =

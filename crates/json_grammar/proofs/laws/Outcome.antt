@@ -1,7 +1,7 @@
 -- Where a fault is told, from a state on.
 --     Outcome     the place of a fault: the bytes before it can go on; or it is the escape that the state stands in; or it stands in the digits of an escape
 --     faulty      each fault is such a one
-use Rattle.std.specs.Prelude.{◌≡◌, ◌⊎◌, Bool, eqb, length, take, drop}
+use Rattle.std.specs.Prelude.{◌≡◌, ◌⊎◌, Bool, eqb, length, take, drop, Option, None, Some}
 use Rattle.std.proofs.Math.Path.{refl, sym, ap}
 use Rattle.std.proofs.Common.{subst, ◌∙◌}
 use Rattle.std.proofs.Math.Logic.{inl, inr}
@@ -32,8 +32,6 @@ use Rattle.json_text.specs.declared.State.{State}
 use Rattle.json_text.specs.declared.State.TheVariants.{Expects, InLiteral, InNumber, InString}
 use Rattle.json_text.specs.declared.Move.{Move}
 use Rattle.json_text.specs.declared.Move.TheVariants.{To, OpenArray, OpenObject, Close, Bad}
-use Rattle.json_text.specs.declared.Checked.{Checked}
-use Rattle.json_text.specs.declared.Checked.TheVariants.{Fine, At}
 use Rattle.json_grammar.specs.Grammar.{Byte, spelled_bytes, is_hexdig, Char}
 use Rattle.json_grammar.proofs.laws.Rest.{Completes, Back}
 use Rattle.json_grammar.proofs.laws.Back.{Naming, hexdig_is, step_back}
@@ -201,27 +199,27 @@ placed (InString n t) a i b = string_placed n i b t
 
 -- ---- the end of the text
 
-abbrev place_of : Checked → ℕ
-place_of Fine = 0
-place_of (At k) = k
+abbrev place_of : Option ℕ → ℕ
+place_of None = 0
+place_of (Some k) = k
 
-pub at_same : (p k : ℕ) → At p ≡ At k → p ≡ k
+pub at_same : (p k : ℕ) → Some p ≡ Some k → p ≡ k
 at_same p k h = ap place_of h
 
-fine_not_at : (k : ℕ) → Fine ≡ At k → ⊥
+fine_not_at : (k : ℕ) → None ≡ Some k → ⊥
 fine_not_at k h = false≢true (ap is_fault h)
   where
-    is_fault : Checked → Bool
-    is_fault Fine = false
-    is_fault (At k) = true
+    is_fault : Option ℕ → Bool
+    is_fault None = false
+    is_fault (Some k) = true
 
 module _ (l k : ℕ) where
-  closed_ended : (a : Around) → check.closed a l ≡ At k → k ≡ l
+  closed_ended : (a : Around) → check.closed a l ≡ Some k → k ≡ l
   closed_ended Nothing h = absurd (fine_not_at k h)
   closed_ended Array h = sym (at_same l k h)
   closed_ended Object h = sym (at_same l k h)
 
-  expects_ended : (e : Expect) (a : Around) → check.expect_end e a l ≡ At k → k ≡ l
+  expects_ended : (e : Expect) (a : Around) → check.expect_end e a l ≡ Some k → k ≡ l
   expects_ended Value a h = sym (at_same l k h)
   expects_ended ValueOrEnd a h = sym (at_same l k h)
   expects_ended Name a h = sym (at_same l k h)
@@ -229,7 +227,7 @@ module _ (l k : ℕ) where
   expects_ended Colon a h = sym (at_same l k h)
   expects_ended After a h = closed_ended a h
 
-  number_ended : (n : NumberState) (a : Around) → check.number_end n a l ≡ At k → k ≡ l
+  number_ended : (n : NumberState) (a : Around) → check.number_end n a l ≡ Some k → k ≡ l
   number_ended Minus a h = sym (at_same l k h)
   number_ended Zero a h = closed_ended a h
   number_ended Int a h = closed_ended a h
@@ -239,7 +237,7 @@ module _ (l k : ℕ) where
   number_ended Sign a h = sym (at_same l k h)
   number_ended Exp a h = closed_ended a h
 
-  pub ended : (st : State) (a : Around) → end st a l ≡ At k → ((k ≡ l) × Faults st) ⊎ Began st k
+  pub ended : (st : State) (a : Around) → end st a l ≡ Some k → ((k ≡ l) × Faults st) ⊎ Began st k
   ended (Expects e) a h = inl (expects_ended e a h, inl tt)
   ended (InLiteral w) a h = inl (sym (at_same l k h), inl tt)
   ended (InNumber n) a h = inl (number_ended n a h, inl tt)
@@ -254,7 +252,7 @@ module _ (l k : ℕ) where
 
 -- no text is accepted that goes on from the bytes l, which stand at i
 abbrev pub Never : ℕ → State → List Container → ℕ → List ℕ → Type 0
-Never limit st cs i l = (t : List ℕ) → check (l ⊕ t) limit i st cs ≡ Fine → ⊥
+Never limit st cs i l = (t : List ℕ) → check (l ⊕ t) limit i st cs ≡ None → ⊥
 
 -- H holds where the digits of an escape may hinder: what N says of them can't be met, whatever follows
 pub data Outcome (H : Type 0) (limit : ℕ) (N : List Char → Bool → Bool) (st : State) (cs : List Container) (i k : ℕ) (s : List ℕ) : Type 0 where
@@ -323,7 +321,7 @@ module _ (H : Type 0) (limit : ℕ) (N : List Char → Bool → Bool) (law : Nam
         Never limit st cs i (take (k - i) (b ∷ s))
     never_on st' cs' f l n t q =
         let e : take (k - i) (b ∷ s) ⊕ t ≡ b ∷ (take (k - (i + 1)) s ⊕ t) = ap (λ (x : List ℕ). x ⊕ t) (take_on b s i k l) ∙ append_cons b _ t in
-        n t (sym (f _) ∙ subst (λ (x : List ℕ). check x limit i st cs ≡ Fine) e q)
+        n t (sym (f _) ∙ subst (λ (x : List ℕ). check x limit i st cs ≡ None) e q)
 
     onward : (st' : State) (cs' : List Container) → ((u : List ℕ) → check (b ∷ u) limit i st cs ≡ check u limit (i + 1) st' cs') → ((u : List ℕ) → Completes limit N st' cs' u → Completes limit N st cs (b ∷ u)) → Placed st i b (To st') →
         Outcome H limit N st' cs' (i + 1) k s → Outcome H limit N st cs i k (b ∷ s)
@@ -344,24 +342,24 @@ module _ (H : Type 0) (limit : ℕ) (N : List Char → Bool → Bool) (law : Nam
     quiet st e = (λ k z. absurd z, λ ds l z. absurd z)
 
     turned : (m : Move) → m ≡ move st (around cs) i b → Placed st i b m → ((u : List ℕ) → Back limit N m cs u → Completes limit N st cs (b ∷ u)) →
-        ((st' : State) (cs' : List Container) → check s limit (i + 1) st' cs' ≡ At k → Outcome H limit N st' cs' (i + 1) k s) →
-        followed m limit i cs (check s limit (i + 1)) ≡ At k → Outcome H limit N st cs i k (b ∷ s)
+        ((st' : State) (cs' : List Container) → check s limit (i + 1) st' cs' ≡ Some k → Outcome H limit N st' cs' (i + 1) k s) →
+        followed m limit i cs (check s limit (i + 1)) ≡ Some k → Outcome H limit N st cs i k (b ∷ s)
     unfolding check followed pick
     turned (To st') e at back ih h = onward st' cs (λ u. rw (← e)) back at (ih st' cs h)
     turned OpenArray e at back ih h = go (ltb (length cs) limit) refl h
       where
-        go : (t : Bool) → ltb (length cs) limit ≡ t → pick t (check s limit (i + 1) (Expects ValueOrEnd) (check.array ∷ cs)) (At i) ≡ At k → Outcome H limit N st cs i k (b ∷ s)
+        go : (t : Bool) → ltb (length cs) limit ≡ t → pick t (check s limit (i + 1) (Expects ValueOrEnd) (check.array ∷ cs)) (Some i) ≡ Some k → Outcome H limit N st cs i k (b ∷ s)
         go true q h = onward (Expects ValueOrEnd) (check.array ∷ cs) (λ u. rw (← e, q)) (λ u c. back u (ltb-true (length cs) limit q, c)) (quiet st ValueOrEnd) (ih (Expects ValueOrEnd) (check.array ∷ cs) h)
         go false q h = at_once st cs i k (b ∷ s) (sym (at_same i k h)) (plains st at cs)
     turned OpenObject e at back ih h = go (ltb (length cs) limit) refl h
       where
-        go : (t : Bool) → ltb (length cs) limit ≡ t → pick t (check s limit (i + 1) (Expects NameOrEnd) (check.object ∷ cs)) (At i) ≡ At k → Outcome H limit N st cs i k (b ∷ s)
+        go : (t : Bool) → ltb (length cs) limit ≡ t → pick t (check s limit (i + 1) (Expects NameOrEnd) (check.object ∷ cs)) (Some i) ≡ Some k → Outcome H limit N st cs i k (b ∷ s)
         go true q h = onward (Expects NameOrEnd) (check.object ∷ cs) (λ u. rw (← e, q)) (λ u c. back u (ltb-true (length cs) limit q, c)) (quiet st NameOrEnd) (ih (Expects NameOrEnd) (check.object ∷ cs) h)
         go false q h = at_once st cs i k (b ∷ s) (sym (at_same i k h)) (plains st at cs)
     turned Close e at back ih h = onward (Expects After) (outer cs) (λ u. rw (← e)) back (quiet st After) (ih (Expects After) (outer cs) h)
     turned (Bad p) e at back ih h = faults_here st cs i k (b ∷ s) (subst (λ (x : ℕ). ((x ≡ i) × Faults st) ⊎ Began st x) (at_same p k h) at)
 
-  pub faulty : (k : ℕ) (s : List ℕ) (i : ℕ) (st : State) (cs : List Container) → check s limit i st cs ≡ At k → Outcome H limit N st cs i k s
+  pub faulty : (k : ℕ) (s : List ℕ) (i : ℕ) (st : State) (cs : List Container) → check s limit i st cs ≡ Some k → Outcome H limit N st cs i k s
   unfolding check
   faulty k [] i st cs h = faults_here st cs i k [] (ended i k st (around cs) h)
   faulty k (b ∷ s) i st cs h =

@@ -1,10 +1,10 @@
 -- What single bytes do in the check, as equations.
---     fault_not_fine                       a fault is not Fine
+--     fault_not_fine                       a fault is not None
 --     hexdig_value, unit_grown             the value of hexadecimal digits
 --     space_step, opens_array, marks ..    between tokens
 --     not_after, digit_steps ..            in numbers
 --     hex_step, hex_last, unit_on ..       in strings
-use Rattle.std.specs.Prelude.{◌≡◌, Bool, not, ℕ, ◌+◌, ◌-◌, ◌*◌, ◌≤◌, ◌<◌, length}
+use Rattle.std.specs.Prelude.{◌≡◌, Bool, not, ℕ, ◌+◌, ◌-◌, ◌*◌, ◌≤◌, ◌<◌, length, Option, None, Some}
 use Rattle.std.proofs.Math.Path.{refl}
 use Rattle.std.proofs.Common.{sym, ap, ◌∙◌, arith}
 use Rattle.std.proofs.Math.Bool.{true, false}
@@ -23,15 +23,13 @@ use Rattle.json_text.specs.declared.Expect.TheVariants.{Value, ValueOrEnd, Name,
 use Rattle.json_text.specs.declared.Number.TheVariants.{Minus, Zero, Int, Point, Frac, E, Sign, Exp}
 use Rattle.json_text.specs.declared.Inside.TheVariants.{Chars, Hex, High, Low}
 use Rattle.json_text.specs.declared.State.TheVariants.{Expects, InNumber, InString}
-use Rattle.json_text.specs.declared.Checked.{Checked}
-use Rattle.json_text.specs.declared.Checked.TheVariants.{Fine, At}
 use Rattle.json_grammar.specs.Grammar.{Byte, is_digit1_9, is_unescaped, is_escaped, is_hexdig, object, array, code_unit}
 
-abbrev is_fine : Checked → Bool
-is_fine Fine = true
-is_fine (At k) = false
+abbrev is_fine : Option ℕ → Bool
+is_fine None = true
+is_fine (Some k) = false
 
-pub fault_not_fine : (k : ℕ) → At k ≡ Fine → ⊥
+pub fault_not_fine : (k : ℕ) → Some k ≡ None → ⊥
 fault_not_fine k h = false≢true (ap is_fine h)
 
 -- ---- bytes
@@ -109,11 +107,11 @@ module _ (limit : ℕ) where
 
     -- a byte of a number is not one that may follow a value
     pub not_after : (p : ℕ → Bool) → (p 32 ≡ false) × (p 9 ≡ false) × (p 13 ≡ false) × (p 10 ≡ false) × (p 44 ≡ false) × (p 93 ≡ false) × (p 125 ≡ false) →
-        (b : ℕ) (s : List ℕ) (i : ℕ) → check (b ∷ s) limit i (Expects After) cs ≡ Fine → p b ≡ false
+        (b : ℕ) (s : List ℕ) (i : ℕ) → check (b ∷ s) limit i (Expects After) cs ≡ None → p b ≡ false
     unfolding check followed pick ◌or◌
     not_after p (q₁, q₂, q₃, q₄, q₅, q₆, q₇) b s i h = go (p b) refl
       where
-        fault : p b ≡ true → (ds : List Container) → check (b ∷ s) limit i (Expects After) ds ≡ At i
+        fault : p b ≡ true → (ds : List Container) → check (b ∷ s) limit i (Expects After) ds ≡ Some i
         fault e [] = rw (eqb_apart p b 32 e q₁, eqb_apart p b 9 e q₂, eqb_apart p b 13 e q₃, eqb_apart p b 10 e q₄)
         fault e (check.array ∷ ds) = rw (eqb_apart p b 32 e q₁, eqb_apart p b 9 e q₂, eqb_apart p b 13 e q₃, eqb_apart p b 10 e q₄, eqb_apart p b 44 e q₅, eqb_apart p b 93 e q₆)
         fault e (check.object ∷ ds) = rw (eqb_apart p b 32 e q₁, eqb_apart p b 9 e q₂, eqb_apart p b 13 e q₃, eqb_apart p b 10 e q₄, eqb_apart p b 44 e q₅, eqb_apart p b 125 e q₇)

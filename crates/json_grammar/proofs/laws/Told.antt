@@ -1,7 +1,7 @@
 -- By which byte a fault is told, whatever follows.
 --     Told       a fault at k, from a state on: it is told by the byte j, or by the end of the text
 --     told_by    each fault is told so
-use Rattle.std.specs.Prelude.{◌≡◌, ◌⊎◌, Bool, List, [], ◌∷◌, length, take, drop}
+use Rattle.std.specs.Prelude.{◌≡◌, ◌⊎◌, Bool, List, [], ◌∷◌, length, take, drop, None, Some}
 use Rattle.std.proofs.Math.Path.{refl}
 use Rattle.std.proofs.Common.{sym, subst, ◌∙◌}
 use Rattle.std.proofs.Math.Logic.{inl, inr}
@@ -18,7 +18,6 @@ use Rattle.json_text.specs.declared.State.{State}
 use Rattle.json_text.specs.declared.State.TheVariants.{Expects}
 use Rattle.json_text.specs.declared.Move.{Move}
 use Rattle.json_text.specs.declared.Move.TheVariants.{To, OpenArray, OpenObject, Close, Bad}
-use Rattle.json_text.specs.declared.Checked.TheVariants.{Fine, At}
 use Rattle.json_grammar.proofs.laws.Ready.{Plain, ready_plain}
 use Rattle.json_grammar.proofs.laws.Outcome.{Began, Faults, Placed, placed, ended, at_same}
 
@@ -30,20 +29,20 @@ pub record Escape (limit : ℕ) (st : State) (cs : List Container) (i k : ℕ) (
   pub inside : p < length s
   pub stands : take 1 (drop p s) ≡ 92 ∷ []
   pub tail : List ℕ
-  pub goes : check (take (p + 1) s ⊕ tail) limit i st cs ≡ Fine
+  pub goes : check (take (p + 1) s ⊕ tail) limit i st cs ≡ None
 
 -- the bytes from place i on are s
 pub record Told (limit : ℕ) (st : State) (cs : List Container) (i k : ℕ) (s : List ℕ) : Type 0 where
   -- the byte of s that tells it; the length of s, where its end does
   pub by : ℕ
   pub inside : by ≤ length s
-  pub told : by < length s → (t : List ℕ) → check (take (by + 1) s ⊕ t) limit i st cs ≡ At k
+  pub told : by < length s → (t : List ℕ) → check (take (by + 1) s ⊕ t) limit i st cs ≡ Some k
   -- the fault is there; or at the escape that the state stands in; or at a reverse solidus before
   pub place : (k ≡ i + by) ⊎ Began st k ⊎ Escape limit st cs i k s by
 
 module _ (limit : ℕ) (st : State) (cs : List Container) (i b k : ℕ) (s : List ℕ) where
   -- by the byte itself
-  told_here : ((u : List ℕ) → check (b ∷ u) limit i st cs ≡ At k) → (k ≡ i) ⊎ Began st k → Told limit st cs i k (b ∷ s)
+  told_here : ((u : List ℕ) → check (b ∷ u) limit i st cs ≡ Some k) → (k ≡ i) ⊎ Began st k → Told limit st cs i k (b ∷ s)
   unfolding ◌⊕◌
   told_here f q = record { by = 0; inside = omega arith; told = λ _ t. f t; place = go q }
     where
@@ -71,8 +70,8 @@ module _ (limit : ℕ) (st : State) (cs : List Container) (i b k : ℕ) (s : Lis
           let j : suc x.p + 1 ≡ suc (x.p + 1) = omega arith in
           inr (inr (record { p = suc x.p; at = omega (arith, x.at); before = omega (arith, x.before); inside = omega (arith, x.inside); stands = x.stands; tail = x.tail; goes = rw j (f _ ∙ x.goes) }))
 
-  turned : (m : Move) → m ≡ move st (around cs) i b → Placed st i b m → ((st' : State) (cs' : List Container) → check s limit (i + 1) st' cs' ≡ At k → Told limit st' cs' (i + 1) k s) →
-      followed m limit i cs (check s limit (i + 1)) ≡ At k → Told limit st cs i k (b ∷ s)
+  turned : (m : Move) → m ≡ move st (around cs) i b → Placed st i b m → ((st' : State) (cs' : List Container) → check s limit (i + 1) st' cs' ≡ Some k → Told limit st' cs' (i + 1) k s) →
+      followed m limit i cs (check s limit (i + 1)) ≡ Some k → Told limit st cs i k (b ∷ s)
   unfolding check followed pick
   turned (To st') e at ih h = told_on st' cs (λ u. rw (← e)) weaker (ih st' cs h)
     where
@@ -84,12 +83,12 @@ module _ (limit : ℕ) (st : State) (cs : List Container) (i b k : ℕ) (s : Lis
           go (inr z) = inr z
   turned OpenArray e at ih h = go (ltb (length cs) limit) refl h
     where
-      go : (t : Bool) → ltb (length cs) limit ≡ t → pick t (check s limit (i + 1) (Expects ValueOrEnd) (check.array ∷ cs)) (At i) ≡ At k → Told limit st cs i k (b ∷ s)
+      go : (t : Bool) → ltb (length cs) limit ≡ t → pick t (check s limit (i + 1) (Expects ValueOrEnd) (check.array ∷ cs)) (Some i) ≡ Some k → Told limit st cs i k (b ∷ s)
       go true q h = told_on (Expects ValueOrEnd) (check.array ∷ cs) (λ u. rw (← e, q)) (λ k z. absurd z) (ih (Expects ValueOrEnd) (check.array ∷ cs) h)
       go false q h = told_here (λ u. rw (← e, q) h) (inl (sym (at_same i k h)))
   turned OpenObject e at ih h = go (ltb (length cs) limit) refl h
     where
-      go : (t : Bool) → ltb (length cs) limit ≡ t → pick t (check s limit (i + 1) (Expects NameOrEnd) (check.object ∷ cs)) (At i) ≡ At k → Told limit st cs i k (b ∷ s)
+      go : (t : Bool) → ltb (length cs) limit ≡ t → pick t (check s limit (i + 1) (Expects NameOrEnd) (check.object ∷ cs)) (Some i) ≡ Some k → Told limit st cs i k (b ∷ s)
       go true q h = told_on (Expects NameOrEnd) (check.object ∷ cs) (λ u. rw (← e, q)) (λ k z. absurd z) (ih (Expects NameOrEnd) (check.object ∷ cs) h)
       go false q h = told_here (λ u. rw (← e, q) h) (inl (sym (at_same i k h)))
   turned Close e at ih h = told_on (Expects After) (outer cs) (λ u. rw (← e)) (λ k z. absurd z) (ih (Expects After) (outer cs) h)
@@ -99,7 +98,7 @@ module _ (limit : ℕ) (st : State) (cs : List Container) (i b k : ℕ) (s : Lis
       go (inl (q, _)) = inl q
       go (inr z) = inr z
 
-pub told_by : (s : List ℕ) (limit k i : ℕ) (st : State) (cs : List Container) → check s limit i st cs ≡ At k → Told limit st cs i k s
+pub told_by : (s : List ℕ) (limit k i : ℕ) (st : State) (cs : List Container) → check s limit i st cs ≡ Some k → Told limit st cs i k s
 unfolding check
 told_by [] limit k i st cs h = record { by = 0; inside = omega arith; told = λ l. absurd (omega arith); place = go (ended i k st (around cs) h) }
   where

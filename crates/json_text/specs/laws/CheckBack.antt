@@ -1,7 +1,7 @@
 -- A value that is written passes the check.
 --     value_passes    a value that can be written, in front of what follows it
 --     written_fine    a text that is such a value
-use Rattle.std.specs.Prelude.{◌≡◌, ℕ, zero, suc, ◌+◌, ◌≤◌, ◌<◌, length}
+use Rattle.std.specs.Prelude.{◌≡◌, ℕ, zero, suc, ◌+◌, ◌≤◌, ◌<◌, length, None}
 use Rattle.std.proofs.Math.Path.{refl}
 use Rattle.std.proofs.Common.{◌∙◌, arith, lt-ltb}
 use Rattle.std.proofs.Math.Bool.{true}
@@ -28,7 +28,6 @@ use Rattle.json_text.specs.laws.ScalarsPass.{Passes, string_passes, name_passes,
 use Rattle.json_text.specs.declared.Expect.TheVariants.{Value, ValueOrEnd, Name, NameOrEnd, After}
 use Rattle.json_text.specs.declared.State.{State}
 use Rattle.json_text.specs.declared.State.TheVariants.{Expects}
-use Rattle.json_text.specs.declared.Checked.TheVariants.{Fine}
 
 -- ---- the first element: no value begins with a closing bracket
 
@@ -152,7 +151,7 @@ module _ (limit : ℕ) where
         let q = more_members_pass ms d b.1 p.0 cs l r in
         (q.0, rw (more_member r n v ms) ((marks limit i cs (quoted n ⊕ (58 ∷ (written v ⊕ more_members ms r)))).3 ∙ k.1 ∙ p.1 ∙ q.1))
 
-pub written_fine : (limit : ℕ) (v : Json) → is_writable v limit ≡ true → verdict limit (written v) ≡ Fine
+pub written_fine : (limit : ℕ) (v : Json) → is_writable v limit ≡ true → verdict limit (written v) ≡ None
 unfolding follows check
 written_fine limit v h =
     let p = value_passes limit v limit h 0 [] (omega arith) [] refl in

@@ -1,7 +1,7 @@
 -- The check in one pass, at most most_open arrays and objects open at once.
 --     Ongoing                the invariant: at the place i the verdict v is that on the rest, in the state st and inside what n has the code of
 --     turn_to .. turn_bad    a turn for each kind of move;   over: the end of the text
-use Rattle.std.specs.Prelude.{◌≡◌, refl, List, [], ◌∷◌, ℕ, ◌+◌, ◌*◌, ◌^◌, ◌≤◌, ◌<◌, length, get_or, drop}
+use Rattle.std.specs.Prelude.{◌≡◌, refl, List, [], ◌∷◌, ℕ, ◌+◌, ◌*◌, ◌^◌, ◌≤◌, ◌<◌, length, get_or, drop, Option, Some}
 use Rattle.std.proofs.Math.Path.{sym, ap}
 use Rattle.std.proofs.Common.{◌∙◌, arith, drop_of_length-le}
 use borrow.Author.Tests.{lt-ltb, le-ltb}
@@ -17,10 +17,8 @@ use Rattle.json_text.specs.declared.State.{State}
 use Rattle.json_text.specs.declared.State.TheVariants.{Expects}
 use Rattle.json_text.specs.declared.Move.{Move}
 use Rattle.json_text.specs.declared.Move.TheVariants.{To, OpenArray, OpenObject, Close, Bad}
-use Rattle.json_text.specs.declared.Checked.{Checked}
-use Rattle.json_text.specs.declared.Checked.TheVariants.{At}
 
-pub record Ongoing (v : Checked) (s : List ℕ) (st : State) (n i : ℕ) : Type 0 where
+pub record Ongoing (v : Option ℕ) (s : List ℕ) (st : State) (n i : ℕ) : Type 0 where
   pub inside : i ≤ length s
   pub cs : List Container
   pub is : n ≡ coded cs
@@ -38,7 +36,7 @@ check_next : (s : List ℕ) (i : ℕ) (st : State) (cs : List Container) → i <
 unfolding check
 check_next s i st cs h = rw (drop_next s i h)
 
-module _ {v : Checked} {s : List ℕ} {st : State} {n i : ℕ} {a : Around} {m : Move}
+module _ {v : Option ℕ} {s : List ℕ} {st : State} {n i : ℕ} {a : Around} {m : Move}
     (o : Ongoing v s st n i) (h : i < length s) (f : a ≡ around_of n) (e : m ≡ move st a i (get_or s i 0)) where
   here : v ≡ followed m most_open i o.cs (check (drop (i + 1) s) most_open (i + 1))
   here =
@@ -67,11 +65,11 @@ module _ {v : Checked} {s : List ℕ} {st : State} {n i : ℕ} {a : Around} {m :
   unfolding followed pick coded
   turn_object q l = turned (Expects NameOrEnd) (n * 2 + 1) (object ∷ o.cs) (rw o.is) (rw (q, lt-ltb (length o.cs) most_open (room l)))
 
-  pub stop_array : m ≡ OpenArray → 2 ^ most_open ≤ n → At i ≡ v
+  pub stop_array : m ≡ OpenArray → 2 ^ most_open ≤ n → Some i ≡ v
   unfolding followed pick
   stop_array q l = sym (here ∙ rw (q, le-ltb (length o.cs) most_open (full l)))
 
-  pub stop_object : m ≡ OpenObject → 2 ^ most_open ≤ n → At i ≡ v
+  pub stop_object : m ≡ OpenObject → 2 ^ most_open ≤ n → Some i ≡ v
   unfolding followed pick
   stop_object q l = sym (here ∙ rw (q, le-ltb (length o.cs) most_open (full l)))
 
@@ -79,11 +77,11 @@ module _ {v : Checked} {s : List ℕ} {st : State} {n i : ℕ} {a : Around} {m :
   unfolding followed
   turn_close n' q p = turned (Expects After) n' (outer o.cs) (p ∙ ap outer_of o.is ∙ coded-outer o.cs) (rw q)
 
-  pub turn_bad : (p : ℕ) → m ≡ Bad p → At p ≡ v
+  pub turn_bad : (p : ℕ) → m ≡ Bad p → Some p ≡ v
   unfolding followed
   turn_bad p q = sym (here ∙ rw q)
 
-pub over : {v : Checked} {s : List ℕ} {st : State} {n i : ℕ} {a : Around} {r : Checked} →
+pub over : {v : Option ℕ} {s : List ℕ} {st : State} {n i : ℕ} {a : Around} {r : Option ℕ} →
     Ongoing v s st n i → length s ≤ i → a ≡ around_of n → r ≡ end st a i → r ≡ v
 unfolding check
 over {v} {s} {st} {n} {i} {a} {r} o h f e =

@@ -2,10 +2,9 @@
 --     text_bytes      each byte of a text is one that a string may hold, or has an escape
 --     escaped_good    with its escapes a text is still well formed
 --     quoted_front    a string in front of what follows
-use Rattle.std.specs.Prelude.{◌≡◌, refl, Bool, true, false, not, List, [], ◌∷◌, ℕ, zero, suc, ◌+◌, ◌≤◌, eqb, leb}
+use Rattle.std.specs.Prelude.{◌≡◌, refl, Bool, true, false, not, List, [], ◌∷◌, ℕ, zero, suc, ◌+◌, ◌≤◌, eqb, leb, None, Some}
 use Rattle.std.proofs.Common.{sym, ap, ◌∙◌, append_assoc, arith, ne_eqb, eqb-true, le-leb}
 use Rattle.std.proofs.lemmas.Bool.{false≢true, not-true}
-use Rattle.std.proofs.Math.Option.{none, some}
 use Rattle.octets.specs.Ascii.{ascii}
 use Rattle.octets.specs.Pick.{pick, ◌and◌, ◌or◌, within}
 use Rattle.octets.specs.laws.Pick.{and_both, and_yes, or_left, or_right, or_cases, within_range}
@@ -55,7 +54,7 @@ lead_byte a c h = go (is_ascii a) refl (within 0xC2 0xDF a) refl (within 0xE0 0x
     go false e false f false g false k h = absurd (false≢true h)
 
 -- after the first k bytes, which are of a character that began before
-bytes_from : (s : List ℕ) (k i lo hi : ℕ) (l : Bool) → 0x80 ≤ lo → tails k lo hi l s ≡ true → bad_from k i s ≡ none → holds 13 s ≡ false → all_of is_string_byte s ≡ true
+bytes_from : (s : List ℕ) (k i lo hi : ℕ) (l : Bool) → 0x80 ≤ lo → tails k lo hi l s ≡ true → bad_from k i s ≡ None → holds 13 s ≡ false → all_of is_string_byte s ≡ true
 unfolding bad_from tails all_of pick
 bytes_from [] k i lo hi l g t h c = refl
 bytes_from (b ∷ s) (suc k) i lo hi l g t h c =
@@ -64,15 +63,15 @@ bytes_from (b ∷ s) (suc k) i lo hi l g t h c =
     rw (high_byte b (omega arith)) (bytes_from s k (i + 1) 0x80 (high_after l b) false (omega arith) a.1 h (holds_split 13 b s c).1)
 bytes_from (a ∷ s) zero i lo hi l g t h c = go (is_sequence a s) refl h (λ k i lo hi l. bytes_from s k i lo hi l)
   where
-    go : (u : Bool) → is_sequence a s ≡ u → pick u (bad_from (more a) (i + 1) s) (some i) ≡ none →
-        ((k i lo hi : ℕ) (l : Bool) → 0x80 ≤ lo → tails k lo hi l s ≡ true → bad_from k i s ≡ none → holds 13 s ≡ false → all_of is_string_byte s ≡ true) → all_of is_string_byte (a ∷ s) ≡ true
+    go : (u : Bool) → is_sequence a s ≡ u → pick u (bad_from (more a) (i + 1) s) (Some i) ≡ None →
+        ((k i lo hi : ℕ) (l : Bool) → 0x80 ≤ lo → tails k lo hi l s ≡ true → bad_from k i s ≡ None → holds 13 s ≡ false → all_of is_string_byte s ≡ true) → all_of is_string_byte (a ∷ s) ≡ true
     go false e h ih = none-some (sym h)
     go true e h ih =
         let b = and_both (leb (more a) 3) _ e in
         let d = holds_split 13 a s c in
         all_cons is_string_byte a s (lead_byte a d.0 b.0) (ih (more a) (i + 1) (low a) (high a) (eqb a 0xEF) (low_least a) b.1 h d.1)
 
-text_parts : (s : List ℕ) → is_text s ≡ true → (holds 13 s ≡ false) × (first_bad s ≡ none)
+text_parts : (s : List ℕ) → is_text s ≡ true → (holds 13 s ≡ false) × (first_bad s ≡ None)
 unfolding is_text
 text_parts s h = let a = and_both (not (holds 13 s)) _ h in (not-true _ a.0, well_formed_good s a.1)
 
@@ -109,7 +108,7 @@ tails-escaped (b ∷ s) (suc n) lo hi l g h =
     let r = within_range lo hi b a.0 in
     rw (high_stays b s (omega arith)) (and_yes _ _ a.0 (tails-escaped s n 0x80 (high_after l b) false (omega arith) a.1))
 
-from_escaped : (s : List ℕ) (k i j lo hi : ℕ) (l : Bool) → 0x80 ≤ lo → tails k lo hi l s ≡ true → bad_from k i s ≡ none → bad_from k j (escaped s) ≡ none
+from_escaped : (s : List ℕ) (k i j lo hi : ℕ) (l : Bool) → 0x80 ≤ lo → tails k lo hi l s ≡ true → bad_from k i s ≡ None → bad_from k j (escaped s) ≡ None
 unfolding bad_from tails escaped pick ◌and◌
 from_escaped [] k i j lo hi l g t h = refl
 from_escaped (b ∷ s) (suc k) i j lo hi l g t h =
@@ -118,16 +117,16 @@ from_escaped (b ∷ s) (suc k) i j lo hi l g t h =
     rw (high_stays b s (omega arith)) (from_escaped s k (i + 1) (j + 1) 0x80 (high_after l b) false (omega arith) a.1 h)
 from_escaped (a ∷ s) zero i j lo hi l g t h = go (is_sequence a s) refl h (λ k i j lo hi l. from_escaped s k i j lo hi l)
   where
-    go : (u : Bool) → is_sequence a s ≡ u → pick u (bad_from (more a) (i + 1) s) (some i) ≡ none →
-        ((k i j lo hi : ℕ) (l : Bool) → 0x80 ≤ lo → tails k lo hi l s ≡ true → bad_from k i s ≡ none → bad_from k j (escaped s) ≡ none) → bad_from 0 j (escaped (a ∷ s)) ≡ none
+    go : (u : Bool) → is_sequence a s ≡ u → pick u (bad_from (more a) (i + 1) s) (Some i) ≡ None →
+        ((k i j lo hi : ℕ) (l : Bool) → 0x80 ≤ lo → tails k lo hi l s ≡ true → bad_from k i s ≡ None → bad_from k j (escaped s) ≡ None) → bad_from 0 j (escaped (a ∷ s)) ≡ None
     go false e h ih = none-some (sym h)
     go true e h ih =
         let b = and_both (leb (more a) 3) _ e in
-        escaped_case (λ x. bad_from 0 j x ≡ none) a s
+        escaped_case (λ x. bad_from 0 j x ≡ None) a s
         (λ y w v. bad_append w (escaped s) j (visible_good w v) ∙ ih 0 (i + 1) _ 0x80 0x80 false (omega arith) refl (rw y at h))
         (rw (b.0, tails-escaped s (more a) (low a) (high a) (eqb a 0xEF) (low_least a) b.1)
         (ih (more a) (i + 1) (j + 1) (low a) (high a) (eqb a 0xEF) (low_least a) b.1 h))
 
-pub escaped_good : (s : List ℕ) → is_text s ≡ true → first_bad (escaped s) ≡ none
+pub escaped_good : (s : List ℕ) → is_text s ≡ true → first_bad (escaped s) ≡ None
 unfolding tails
 escaped_good s h = from_escaped s 0 0 0 0x80 0x80 false (omega arith) refl (text_parts s h).1

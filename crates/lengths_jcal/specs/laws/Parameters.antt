@@ -1,9 +1,7 @@
 -- The jCal of parameters, by the length of their text in a content line.
 --     parameters_length    the parameters that are read, each with a comma
-use Rattle.std.specs.Prelude.{◌≡◌, refl, Bool, true, false, not, List, [], ◌∷◌, map, ℕ, suc, ◌+◌, ◌*◌, ◌≤◌, length}
+use Rattle.std.specs.Prelude.{◌≡◌, refl, Bool, true, false, not, List, [], ◌∷◌, map, ℕ, suc, ◌+◌, ◌*◌, ◌≤◌, length, Option, None, Some, option_map}
 use Rattle.std.proofs.Common.{ap, arith}
-use Rattle.std.proofs.Math.Option
-use Rattle.std.proofs.Math.Option.{Option, none, some}
 use Rattle.octets.specs.Pick.{pick, ◌and◌, ◌or◌}
 use Rattle.octets.specs.Append.{◌⊕◌, joined}
 use Rattle.octets.specs.laws.Append.{length_both}
@@ -54,16 +52,16 @@ use Rattle.lengths_jcal.specs.laws.Values.{each_length}
 abbrev Near : List ℕ → Value → Type 0
 Near s v = length (parameter_value v) ≤ length s + 5
 
-mapped : {A : Type 0} (s : List ℕ) (g : A → Value) (o : Option A) (v : Value) → ((a : A) → o ≡ some a → Near s (g a)) → Option.map g o ≡ some v → Near s v
-mapped s g none v f h = none-some h
-mapped s g (some a) v f h = let q : g a ≡ v = cc in rw (← q) (f a refl)
+mapped : {A : Type 0} (s : List ℕ) (g : A → Value) (o : Option A) (v : Value) → ((a : A) → o ≡ Some a → Near s (g a)) → option_map g o ≡ Some v → Near s v
+mapped s g None v f h = none-some h
+mapped s g (Some a) v f h = let q : g a ≡ v = cc in rw (← q) (f a refl)
 
 truth_length : (b : Bool) → length (write_boolean ical b) ≤ 5
 unfolding pick
 truth_length true = omega arith
 truth_length false = omega arith
 
-value_near : (t : ValueType) (s : List ℕ) (v : Value) → read_value ical t s ≡ some v → Near s v
+value_near : (t : ValueType) (s : List ℕ) (v : Value) → read_value ical t s ≡ Some v → Near s v
 unfolding read_value parameter_value value_characters
 value_near BINARY s v = mapped s binary (read_binary ical s) v (λ a e. omega (arith, ap length (binary_kept ical s a e)))
 value_near BOOLEAN s v = mapped s boolean (read_boolean ical s) v (λ b e. omega (arith, truth_length b))
@@ -89,37 +87,37 @@ unknown_near : (s : List ℕ) → Near s (unknown s)
 unfolding parameter_value value_characters
 unknown_near s = omega arith
 
-typed_near : (t : ValueType) (s : List ℕ) (v : Value) → read_typed t s ≡ some v → Near s v
+typed_near : (t : ValueType) (s : List ℕ) (v : Value) → read_typed t s ≡ Some v → Near s v
 unfolding pick
 typed_near t s v h = go (same_type t TEXT) h
   where
-    other : (b : Bool) → pick b (some (unknown s)) (read_value ical t s) ≡ some v → Near s v
+    other : (b : Bool) → pick b (Some (unknown s)) (read_value ical t s) ≡ Some v → Near s v
     other true h = let q : unknown s ≡ v = cc in rw (← q) (unknown_near s)
     other false h = value_near t s v h
 
-    go : (b : Bool) → pick b (some (text s)) (pick (same_type t UNKNOWN) (some (unknown s)) (read_value ical t s)) ≡ some v → Near s v
+    go : (b : Bool) → pick b (Some (text s)) (pick (same_type t UNKNOWN) (Some (unknown s)) (read_value ical t s)) ≡ Some v → Near s v
     go true h = let q : text s ≡ v = cc in rw (← q) (text_near s s (omega arith))
     go false h = other (same_type t UNKNOWN) h
 
-in_word_near : (o : Option (List (List ℕ))) (t : ValueType) (s : List ℕ) (v : Value) → read_word o t s ≡ some v → Near s v
-in_word_near none t s v h = typed_near t s v h
-in_word_near (some ws) t s v h = rw (← (provided-some (is_one_of (upper s) ws) (text (upper s)) v h).1) (text_near s (upper s) (omega (arith, upper-length s)))
+in_word_near : (o : Option (List (List ℕ))) (t : ValueType) (s : List ℕ) (v : Value) → read_word o t s ≡ Some v → Near s v
+in_word_near None t s v h = typed_near t s v h
+in_word_near (Some ws) t s v h = rw (← (provided-some (is_one_of (upper s) ws) (text (upper s)) v h).1) (text_near s (upper s) (omega (arith, upper-length s)))
 
 -- as a string, and a comma
 abbrev string_of : Value → List ℕ
 string_of v = quoted (parameter_value v)
 
-param_short : (n : List ℕ) (r : ParamValue) (v : Value) → read_param_value n r ≡ some v → length (string_of v) + 1 ≤ rate * suc (length (write_param_value r))
+param_short : (n : List ℕ) (r : ParamValue) (v : Value) → read_param_value n r ≡ Some v → length (string_of v) + 1 ≤ rate * suc (length (write_param_value r))
 unfolding read_param_value pick
 param_short n r v h = go (not r.quoted and is_quoted_parameter n) h
   where
-    go : (b : Bool) → pick b none (read_word (parameter_words n) (parameter_type n) r.chars) ≡ some v → length (string_of v) + 1 ≤ rate * suc (length (write_param_value r))
+    go : (b : Bool) → pick b None (read_word (parameter_words n) (parameter_type n) r.chars) ≡ Some v → length (string_of v) + 1 ≤ rate * suc (length (write_param_value r))
     go true h = none-some h
     go false h = omega (arith, quoted_length (parameter_value v), in_word_near (parameter_words n) (parameter_type n) r.chars v h, chars.quoted_length r)
 
 -- ---- a parameter
 
-parameter_length : (r : RawParameter) (p : Parameter) → read_parameter r ≡ some p → length (parameter_json p) + 1 ≤ rate * length (write_parameter r)
+parameter_length : (r : RawParameter) (p : Parameter) → read_parameter r ≡ Some p → length (parameter_json p) + 1 ≤ rate * length (write_parameter r)
 unfolding read_parameter parameter_json write_parameter pick
 parameter_length r p h = go (is_listed_parameter (upper r.name) or is_single r.values) h
   where
@@ -135,21 +133,21 @@ parameter_length r p h = go (is_listed_parameter (upper r.name) or is_single r.v
     Brief : Type 0
     Brief = length (parameter_json p) + 1 ≤ rate * length (59 ∷ (r.name ⊕ 61 ∷ joined_by 44 vs))
 
-    read : (o : Option (List Value)) → read_each (read_param_value n) r.values ≡ o → Option.map named o ≡ some p → Brief
-    read none e k = none-some k
-    read (some xs) e k =
+    read : (o : Option (List Value)) → read_each (read_param_value n) r.values ≡ o → option_map named o ≡ Some p → Brief
+    read None e k = none-some k
+    read (Some xs) e k =
         let q : named xs ≡ p = cc in
         let outer = member_length (lower n) (one_or_array (map string_of xs)) in
         let each = each_length (read_param_value n) string_of write_param_value (param_short n) r.values xs e in
         rw (← q) (omega (arith, outer, one_length (map string_of xs), lower-length n, upper-length r.name, each, joined_weight 44 vs, length_both r.name (61 ∷ joined_by 44 vs)))
 
-    go : (b : Bool) → pick b (Option.map named (read_each (read_param_value n) r.values)) none ≡ some p → Brief
+    go : (b : Bool) → pick b (option_map named (read_each (read_param_value n) r.values)) None ≡ Some p → Brief
     go true h = read (read_each (read_param_value n) r.values) refl h
     go false h = none-some h
 
 -- ---- all parameters
 
-each_parameter : (rs : List RawParameter) (ps : List Parameter) → read_each read_parameter rs ≡ some ps → weight (map parameter_json ps) ≤ rate * bytes rs
+each_parameter : (rs : List RawParameter) (ps : List Parameter) → read_each read_parameter rs ≡ Some ps → weight (map parameter_json ps) ≤ rate * bytes rs
 unfolding read_each weight joined
 each_parameter [] ps h = let q : [] ≡ ps = cc in rw (← q) (omega arith)
 each_parameter (r ∷ rs) ps h =
@@ -158,5 +156,5 @@ each_parameter (r ∷ rs) ps h =
     let written = length_both (write_parameter r) (joined (map write_parameter rs)) in
     rw (← g.2) (omega (arith, written, parameter_length r e.0 e.1, each_parameter rs g.0 g.1))
 
-pub parameters_length : (rs : List RawParameter) (ps : List Parameter) → read_parameters rs ≡ some ps → weight (map parameter_json ps) ≤ rate * bytes rs
+pub parameters_length : (rs : List RawParameter) (ps : List Parameter) → read_parameters rs ≡ Some ps → weight (map parameter_json ps) ≤ rate * bytes rs
 parameters_length rs ps h = omega (arith, each_parameter (own_parameters rs) ps h, own_bytes rs)

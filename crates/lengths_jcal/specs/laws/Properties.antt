@@ -1,7 +1,6 @@
 -- The jCal of a property, by the length of its content line with the two bytes that end it.
 --     property_length    the property that a line states, and a comma
-use Rattle.std.specs.Prelude.{◌≡◌, refl, List, [], ◌∷◌, map, ℕ, ◌+◌, ◌*◌, ◌≤◌, length}
-use Rattle.std.proofs.Math.Option.{Option, none, some}
+use Rattle.std.specs.Prelude.{◌≡◌, refl, List, [], ◌∷◌, map, ℕ, ◌+◌, ◌*◌, ◌≤◌, length, Option, None, Some}
 use Rattle.std.proofs.Common.{arith}
 use Rattle.octets.specs.Class.{upper, lower}
 use Rattle.octets.specs.laws.Letters.{upper-length, lower-length}
@@ -30,16 +29,16 @@ unfolding read_or weight
 parameters_or rs = go (read_parameters rs) refl
   where
     go : (o : Option (List Parameter)) → read_parameters rs ≡ o → weight (map parameter_json (read_or [] o)) ≤ rate * bytes rs
-    go none e = omega arith
-    go (some ps) e = parameters_length rs ps e
+    go None e = omega arith
+    go (Some ps) e = parameters_length rs ps e
 
 values_or : (k n : List ℕ) (t : ValueType) (s : List ℕ) → Brief s (read_or [] (read_values k n t s))
 unfolding read_or weight
 values_or k n t s = go (read_values k n t s) refl
   where
     go : (o : Option (List Value)) → read_values k n t s ≡ o → Brief s (read_or [] o)
-    go none e = omega arith
-    go (some vs) e = values_length k n t s vs e
+    go None e = omega arith
+    go (Some vs) e = values_length k n t s vs e
 
 pub property_length : (k : List ℕ) (l : ContentLine) → length (property_json (property_of k l)) + 1 ≤ rate * (length (write_content_line l) + 2)
 unfolding property_json property_of weight

@@ -1,9 +1,8 @@
 -- The object of a rule: no longer than the rule's elements.
 --     rule_length
-use Rattle.std.specs.Prelude.{◌≡◌, refl, Bool, true, List, [], ◌∷◌, map, ℕ, ◌+◌, ◌*◌, ◌≤◌, eqb, leb, length}
+use Rattle.std.specs.Prelude.{◌≡◌, refl, Bool, true, List, [], ◌∷◌, map, ℕ, ◌+◌, ◌*◌, ◌≤◌, eqb, leb, length, Option, None, Some}
 use Rattle.std.proofs.Common.{ap, arith, leb-true}
 use Rattle.std.proofs.lemmas.Bool.{false≢true}
-use Rattle.std.proofs.Math.Option.{Option, none, some}
 use Rattle.octets.specs.Ascii.{ascii}
 use Rattle.octets.specs.Append.{◌⊕◌}
 use Rattle.octets.specs.laws.Append.{length_both}
@@ -84,8 +83,8 @@ part_named : (n : List ℕ) (i : RuleItem) → is_item n i ≡ true → (4 ≤ l
 part_named n i h = go (part_of n) refl h
   where
     go : (o : Option Part) → part_of n ≡ o → is_for o i ≡ true → (4 ≤ length n) × (escaped (lower n) ≡ lower n)
-    go none e k = absurd (false≢true k)
-    go (some r) e k =
+    go None e k = absurd (false≢true k)
+    go (Some r) e k =
         let p = and_both _ _ (row_passes (λ (x : Part). x.name) n is_named part_table r all_named e) in
         let q = row_named (λ (x : Part). x.name) n part_table r e in
         (rw (← q) (leb-true _ _ p.0), rw (← q) (plain_escaped _ p.1))
@@ -111,7 +110,7 @@ parts_short (p ∷ ps) h =
 
 -- ---- a rule
 
-pub rule_length : (s : List ℕ) (ps : List RulePart) → read_rule s ≡ some ps → 15 + weight (map part_json ps) ≤ rate * (length s + 1)
+pub rule_length : (s : List ℕ) (ps : List RulePart) → read_rule s ≡ Some ps → 15 + weight (map part_json ps) ≤ rate * (length s + 1)
 rule_length s ps h = omega (arith, elements.rule_length s ps h, parts_short ps (parts_of_lem ps (rule_accepted s ps h)))
   where
     parts_of_lem : (ps : List RulePart) → is_rule ps ≡ true → every is_part ps ≡ true

@@ -1,10 +1,8 @@
 -- The jCal of a value, of any type, and a comma: no more than `rate` bytes for each byte of its text, and one byte more.
 --     value_length    a value
 --     each_length     the values of pieces of a text
-use Rattle.std.specs.Prelude.{◌≡◌, refl, Bool, true, false, List, [], ◌∷◌, map, ℕ, suc, ◌+◌, ◌*◌, ◌≤◌, length, take, drop}
+use Rattle.std.specs.Prelude.{◌≡◌, refl, Bool, true, false, List, [], ◌∷◌, map, ℕ, suc, ◌+◌, ◌*◌, ◌≤◌, length, take, drop, Option, None, Some, option_map}
 use Rattle.std.proofs.Common.{ap, arith, length-take, length-drop}
-use Rattle.std.proofs.Math.Option
-use Rattle.std.proofs.Math.Option.{Option, none, some}
 use Rattle.octets.specs.Pick.{pick}
 use Rattle.octets.specs.Class.{upper}
 use Rattle.octets.specs.laws.Letters.{upper-length}
@@ -59,20 +57,20 @@ two_length : (s a z : List ℕ) → 15 ≤ length s → length a ≤ length s + 
 unfolding weight
 two_length s a z l h k = omega (arith, array_length (quoted a ∷ quoted z ∷ []), quoted_length a, quoted_length z)
 
-from_length : (s a r : List ℕ) (v : Value) → 15 ≤ length s → length a ≤ length s → length r ≤ length s → period_from a r ≡ some v → Short s v
+from_length : (s a r : List ℕ) (v : Value) → 15 ≤ length s → length a ≤ length s → length r ≤ length s → period_from a r ≡ Some v → Short s v
 unfolding period_from pick value_json
 from_length s a r v l h k e = go (is_date_time (upper r)) e
   where
-    go : (t : Bool) → pick t (some (period_explicit a (upper r))) (and_then (read_duration ical r) (λ d. some (period_start a d))) ≡ some v → Short s v
+    go : (t : Bool) → pick t (Some (period_explicit a (upper r))) (and_then (read_duration ical r) (λ d. Some (period_start a d))) ≡ Some v → Short s v
     go true e =
         let q : period_explicit a (upper r) ≡ v = cc in
         rw (← q) (two_length s (write_date_time xcal a) (write_date_time xcal (upper r)) l (omega (arith, date_time_written a)) (omega (arith, date_time_written (upper r), upper-length r)))
     go false e =
-        let p = and_then-some (read_duration ical r) (λ d. some (period_start a d)) v e in
+        let p = and_then-some (read_duration ical r) (λ d. Some (period_start a d)) v e in
         let q : period_start a p.0 ≡ v = cc p.2 in
         rw (← q) (two_length s (write_date_time xcal a) (write_duration xcal p.0) l (omega (arith, date_time_written a)) (omega (arith, duration_length r p.0 p.1)))
 
-period_length : (s : List ℕ) (v : Value) → read_period s ≡ some v → Short s v
+period_length : (s : List ℕ) (v : Value) → read_period s ≡ Some v → Short s v
 unfolding read_period
 period_length s v h =
     let r : List ℕ = drop 1 (drop (slash_at s) s) in
@@ -84,20 +82,20 @@ period_length s v h =
 
 -- ---- a rule
 
-recur_length : (s : List ℕ) → (o : Option (List RulePart)) → read_rule s ≡ o → (v : Value) → Option.map recur o ≡ some v → Short s v
+recur_length : (s : List ℕ) → (o : Option (List RulePart)) → read_rule s ≡ o → (v : Value) → option_map recur o ≡ Some v → Short s v
 unfolding value_json
-recur_length s none e v h = none-some h
-recur_length s (some ps) e v h =
+recur_length s None e v h = none-some h
+recur_length s (Some ps) e v h =
     let q : recur ps ≡ v = cc in
     rw (← q) (omega (arith, object_length (map part_json ps), rule_length s ps e))
 
 -- ---- a value of any type
 
-mapped : {A : Type 0} (s : List ℕ) (g : A → Value) (o : Option A) (v : Value) → ((a : A) → o ≡ some a → Short s (g a)) → Option.map g o ≡ some v → Short s v
-mapped s g none v f h = none-some h
-mapped s g (some a) v f h = let q : g a ≡ v = cc in rw (← q) (f a refl)
+mapped : {A : Type 0} (s : List ℕ) (g : A → Value) (o : Option A) (v : Value) → ((a : A) → o ≡ Some a → Short s (g a)) → option_map g o ≡ Some v → Short s v
+mapped s g None v f h = none-some h
+mapped s g (Some a) v f h = let q : g a ≡ v = cc in rw (← q) (f a refl)
 
-pub value_length : (t : ValueType) (s : List ℕ) (v : Value) → read_value ical t s ≡ some v → Short s v
+pub value_length : (t : ValueType) (s : List ℕ) (v : Value) → read_value ical t s ≡ Some v → Short s v
 unfolding read_value value_json value_characters
 value_length BINARY s v = mapped s binary (read_binary ical s) v (λ a e. string_length s _ (omega (arith, ap length (binary_kept ical s a e))))
 value_length BOOLEAN s v = mapped s boolean (read_boolean ical s) v (λ b e. omega (arith, truth_length b))
@@ -118,8 +116,8 @@ value_length UNKNOWN s v = mapped s unknown (read_unknown s) v (λ a e. string_l
 -- ---- each of a list, where what it is read from has some text
 
 pub each_length : {A : Type 0} (reading : A → Option Value) (writing : Value → List ℕ) (spelling : A → List ℕ) →
-    ((a : A) (v : Value) → reading a ≡ some v → length (writing v) + 1 ≤ rate * suc (length (spelling a))) →
-    (l : List A) (vs : List Value) → read_each reading l ≡ some vs → weight (map writing vs) ≤ rate * weight (map spelling l)
+    ((a : A) (v : Value) → reading a ≡ Some v → length (writing v) + 1 ≤ rate * suc (length (spelling a))) →
+    (l : List A) (vs : List Value) → read_each reading l ≡ Some vs → weight (map writing vs) ≤ rate * weight (map spelling l)
 unfolding read_each weight
 each_length reading writing spelling f [] vs h = let q : [] ≡ vs = cc in rw (← q) (omega arith)
 each_length reading writing spelling f (a ∷ l) vs h =

@@ -4,10 +4,9 @@
 --     fold_length     a line folded
 --     at-fine         a fault that is none
 --     lines_length    the lines of properties whose arrays have no fault
-use Rattle.std.specs.Prelude.{◌≡◌, refl, Bool, true, false, not, List, [], ◌∷◌, map, ℕ, suc, ◌+◌, ◌-◌, ◌*◌, ◌≤◌, ◌<◌, length, drop}
+use Rattle.std.specs.Prelude.{◌≡◌, refl, Bool, true, false, not, List, [], ◌∷◌, map, ℕ, suc, ◌+◌, ◌-◌, ◌*◌, ◌≤◌, ◌<◌, length, drop, Option, None, Some}
 use Rattle.std.proofs.Common.{ap, ltb-true}
 use Rattle.std.proofs.lemmas.Bool.{false≢true, not-false}
-use Rattle.std.proofs.Math.Option.{Option, none, some}
 use native.Mathlib.Omega.{arith}
 use Rattle.octets.specs.Ascii.{ascii}
 use Rattle.octets.specs.Pick.{pick, ◌and◌, ◌or◌}
@@ -58,32 +57,32 @@ unfolding read_or
 name_size l = go (name_in l) refl
   where
     go : (o : Option (List ℕ)) → name_in l ≡ o → length (upper (read_or [] o)) ≤ size_in (nth 0 l)
-    go none e = omega (arith, upper-length [])
-    go (some n) e = let q = and_then-some (nth 0 l) as_string n e in rw q.1 (unfold size_in in omega (arith, as_string_lem q.0 n q.2, upper-length n))
+    go None e = omega (arith, upper-length [])
+    go (Some n) e = let q = and_then-some (nth 0 l) as_string n e in rw q.1 (unfold size_in in omega (arith, as_string_lem q.0 n q.2, upper-length n))
 
 pub read_name : (l : List Json) → is_read (name_in l) ≡ true → length (upper (read_or [] (name_in l))) + 1 ≤ size_in (nth 0 l)
 unfolding read_or is_read
 read_name l h = go (name_in l) refl h
   where
     go : (o : Option (List ℕ)) → name_in l ≡ o → is_read o ≡ true → length (upper (read_or [] o)) + 1 ≤ size_in (nth 0 l)
-    go none e h = absurd (false≢true h)
-    go (some n) e h = let q = and_then-some (nth 0 l) as_string n e in rw q.1 (unfold size_in in omega (arith, as_string_lem q.0 n q.2, upper-length n))
+    go None e h = absurd (false≢true h)
+    go (Some n) e h = let q = and_then-some (nth 0 l) as_string n e in rw q.1 (unfold size_in in omega (arith, as_string_lem q.0 n q.2, upper-length n))
 
 members_size : (l : List Json) → member_total (member_list l) ≤ size_in (nth 1 l)
 unfolding read_or
 members_size l = go (parameters_in l) refl
   where
     go : (o : Option (List Member)) → parameters_in l ≡ o → member_total (read_or [] o) ≤ size_in (nth 1 l)
-    go none e = unfold member_total in omega arith
-    go (some ms) e = let q = and_then-some (nth 1 l) as_object ms e in rw q.1 (unfold size_in in omega (arith, as_object_lem q.0 ms q.2))
+    go None e = unfold member_total in omega arith
+    go (Some ms) e = let q = and_then-some (nth 1 l) as_object ms e in rw q.1 (unfold size_in in omega (arith, as_object_lem q.0 ms q.2))
 
 read_members : (l : List Json) → is_read (parameters_in l) ≡ true → member_total (member_list l) + 1 ≤ size_in (nth 1 l)
 unfolding read_or is_read
 read_members l h = go (parameters_in l) refl h
   where
     go : (o : Option (List Member)) → parameters_in l ≡ o → is_read o ≡ true → member_total (read_or [] o) + 1 ≤ size_in (nth 1 l)
-    go none e h = absurd (false≢true h)
-    go (some ms) e h = let q = and_then-some (nth 1 l) as_object ms e in rw q.1 (unfold size_in in omega (arith, as_object_lem q.0 ms q.2))
+    go None e h = absurd (false≢true h)
+    go (Some ms) e h = let q = and_then-some (nth 1 l) as_object ms e in rw q.1 (unfold size_in in omega (arith, as_object_lem q.0 ms q.2))
 
 read_type : (l : List Json) → is_read (type_in l) ≡ true → 1 ≤ size_in (nth 2 l)
 read_type l h =
@@ -135,12 +134,12 @@ fold_length c (b ∷ s) = go (is_over c b) refl (λ (d : ℕ). fold_length d s)
 
 -- ---- properties without a fault
 
-pub at-fine : (p : ℕ) (o : Option Refusal) → at p o ≡ fine → o ≡ none
-at-fine p none h = refl
-at-fine p (some r) h = refused_not r p h
+pub at-fine : (p : ℕ) (o : Option Refusal) → at p o ≡ fine → o ≡ None
+at-fine p None h = refl
+at-fine p (Some r) h = refused_not r p h
 
 -- an array that has a name, an object and a type
-shaped_length : (ed : Edition) (k : List ℕ) (l : List Json) (n : ℕ) → property_fault ed k l ≡ none → suc (total l) ≤ n → length (property_line ed (property_of k l)) ≤ 6 * n
+shaped_length : (ed : Edition) (k : List ℕ) (l : List Json) (n : ℕ) → property_fault ed k l ≡ None → suc (total l) ≤ n → length (property_line ed (property_of k l)) ≤ 6 * n
 unfolding property_fault is_shaped
 shaped_length ed k l n h z =
     let a = past_fault (names_bad l) NAME _ h in
@@ -152,8 +151,8 @@ shaped_length ed k l n h z =
 
 property_length : (ed : Edition) (k : List ℕ) (v : Json) (o : Option (List Json)) → as_array v ≡ o → property_verdict ed k v o ≡ fine → length (property_line ed (property_of k (read_or [] o))) ≤ 6 * size v
 unfolding read_or
-property_length ed k v none e h = refused_not FRAME (place_of v) h
-property_length ed k v (some l) e h = shaped_length ed k l (size v) (at-fine (place_of v) (property_fault ed k l) h) (rw e at (array_size v))
+property_length ed k v None e h = refused_not FRAME (place_of v) h
+property_length ed k v (Some l) e h = shaped_length ed k l (size v) (at-fine (place_of v) (property_fault ed k l) h) (rw e at (array_size v))
 
 pub lines_length : (ed : Edition) (k : List ℕ) (l : List Json) → properties_verdict ed k l ≡ fine → length (property_lines ed (map (λ v. property_of k (read_or [] (as_array v))) l)) ≤ 6 * total l
 unfolding properties_verdict property_lines total

@@ -1,7 +1,7 @@
 -- Of a JSON text that passes the check each member's name stands before a value, and no other string has a colon behind it.
 --     tokens_valued    the tokens of such a text
 --     checked_size     its value is no larger than the text
-use Rattle.std.specs.Prelude.{◌≡◌, Bool, not, ltb, length, drop}
+use Rattle.std.specs.Prelude.{◌≡◌, Bool, not, ltb, length, drop, Option, None}
 use Rattle.std.proofs.Math.Path.{refl}
 use Rattle.std.proofs.Common.{sym, subst, ◌∙◌, eqb-true}
 use Rattle.std.proofs.Math.Bool.{true, false}
@@ -29,8 +29,6 @@ use Rattle.json_text.specs.declared.Inside.TheVariants.{Chars}
 use Rattle.json_text.specs.declared.State.{State}
 use Rattle.json_text.specs.declared.State.TheVariants.{Expects, InLiteral, InNumber, InString}
 use Rattle.json_text.specs.declared.Move.TheVariants.{To, OpenArray, OpenObject, Close}
-use Rattle.json_text.specs.declared.Checked.{Checked}
-use Rattle.json_text.specs.declared.Checked.TheVariants.{Fine}
 use Rattle.jcal.proofs.laws.CheckedStrings.{not_fine, Goes, goes, choose, bad_not, to_state}
 use Rattle.jcal.proofs.laws.CheckedScalars.{apart, no_scalar, scalar_no_space, letters, number_run, literal_run, scalar_by, opened}
 use Rattle.lengths_jcal_text.specs.laws.Sizes.{size}
@@ -49,7 +47,7 @@ wanted After = false
 
 module _ (limit : ℕ) where
   -- behind a value no colon stands
-  no_colon : (s : List ℕ) (i : ℕ) (cs : List Container) → check s limit i (Expects After) cs ≡ Fine → begins_by (λ b. eqb b name_separator) (after_run is_space s) ≡ false
+  no_colon : (s : List ℕ) (i : ℕ) (cs : List Container) → check s limit i (Expects After) cs ≡ None → begins_by (λ b. eqb b name_separator) (after_run is_space s) ≡ false
   unfolding after_run span_len begins_by pick
   no_colon [] i cs h = refl
   no_colon (b ∷ s) i cs h = go (is_space b) refl (goes b s limit i (Expects After) cs h) (no_colon s (i + 1) cs)
@@ -60,22 +58,22 @@ module _ (limit : ℕ) where
       other Object k = choose (eqb b 44) _ _ k (λ e k. rw (eqb-true b 44 e)) (λ e k. choose (eqb b 125) _ _ k (λ e k. rw (eqb-true b 125 e)) (λ e k. bad_not i k))
 
       go : (t : Bool) → is_space b ≡ t → Goes (pick t (To (Expects After)) (after_by (around cs) i b)) limit i cs (check s limit (i + 1)) →
-          (check s limit (i + 1) (Expects After) cs ≡ Fine → begins_by (λ b. eqb b name_separator) (after_run is_space s) ≡ false) → begins_by (λ b. eqb b name_separator) (drop (pick t (suc (span_len is_space s)) 0) (b ∷ s)) ≡ false
+          (check s limit (i + 1) (Expects After) cs ≡ None → begins_by (λ b. eqb b name_separator) (after_run is_space s) ≡ false) → begins_by (λ b. eqb b name_separator) (drop (pick t (suc (span_len is_space s)) 0) (b ∷ s)) ≡ false
       go true e k ih = ih (to_state _ k)
       go false e k ih = other (around cs) k
 
   -- ---- between tokens
 
   -- what a byte between tokens can be, where x is expected
-  record Ways (X : Type 0) (x : Expect) (b : ℕ) (cs : List Container) (rest : State → List Container → Checked) : Type 0 where
-    separates : is_separator b ≡ true → (e : Expect) → (wanted x ≡ true → wanted e ≡ true) → rest (Expects e) cs ≡ Fine → X
-    opens : (eqb b 91 or eqb b 123) ≡ true → (e : Expect) (ds : List Container) → rest (Expects e) ds ≡ Fine → X
-    closes : is_closing b ≡ true → wanted x ≡ false → (ds : List Container) → rest (Expects After) ds ≡ Fine → X
-    quote : eqb b 34 ≡ true → (n : Bool) → (n ≡ true → wanted x ≡ false) → rest (InString n Chars) cs ≡ Fine → X
-    numeral : is_scalar b ≡ true → (m : Number) → rest (InNumber m) cs ≡ Fine → X
-    letter : is_scalar b ≡ true → (w : ℕ) → letters 4 w ≡ true → rest (InLiteral w) cs ≡ Fine → X
+  record Ways (X : Type 0) (x : Expect) (b : ℕ) (cs : List Container) (rest : State → List Container → Option ℕ) : Type 0 where
+    separates : is_separator b ≡ true → (e : Expect) → (wanted x ≡ true → wanted e ≡ true) → rest (Expects e) cs ≡ None → X
+    opens : (eqb b 91 or eqb b 123) ≡ true → (e : Expect) (ds : List Container) → rest (Expects e) ds ≡ None → X
+    closes : is_closing b ≡ true → wanted x ≡ false → (ds : List Container) → rest (Expects After) ds ≡ None → X
+    quote : eqb b 34 ≡ true → (n : Bool) → (n ≡ true → wanted x ≡ false) → rest (InString n Chars) cs ≡ None → X
+    numeral : is_scalar b ≡ true → (m : Number) → rest (InNumber m) cs ≡ None → X
+    letter : is_scalar b ≡ true → (w : ℕ) → letters 4 w ≡ true → rest (InLiteral w) cs ≡ None → X
 
-  module _ {X : Type 0} {x : Expect} {i b : ℕ} {cs : List Container} {rest : State → List Container → Checked} (w : Ways X x b cs rest) where
+  module _ {X : Type 0} {x : Expect} {i b : ℕ} {cs : List Container} {rest : State → List Container → Option ℕ} (w : Ways X x b cs rest) where
     open_array : eqb b 91 ≡ true → Goes OpenArray limit i cs rest → X
     unfolding followed
     open_array e k = w.opens (or_left _ _ e) ValueOrEnd _ (opened (ltb (length cs) limit) _ i k.fine)
@@ -105,7 +103,7 @@ module _ (limit : ℕ) where
     behind_by f Array k = choose (eqb b 44) _ _ k (comma f Value) (λ e k. choose (eqb b 93) _ _ k (λ e k. close_by f (or_left _ _ e) k) (λ e k. bad_not i k))
     behind_by f Object k = choose (eqb b 44) _ _ k (comma f Name) (λ e k. choose (eqb b 125) _ _ k (λ e k. close_by f (or_right _ _ e) k) (λ e k. bad_not i k))
 
-  expected_by : {X : Type 0} {i b : ℕ} {cs : List Container} {rest : State → List Container → Checked} (x : Expect) → Ways X x b cs rest → (a : Around) → Goes (expected x a i b) limit i cs rest → X
+  expected_by : {X : Type 0} {i b : ℕ} {cs : List Container} {rest : State → List Container → Option ℕ} (x : Expect) → Ways X x b cs rest → (a : Around) → Goes (expected x a i b) limit i cs rest → X
   expected_by Value w a k = value_by w k
   expected_by {b = b} ValueOrEnd w a k = choose (eqb b 93) _ _ k (λ e k. close_by w refl (or_left _ _ e) k) (λ e k. value_by w k)
   expected_by Name w a k = name_by w refl k
@@ -113,7 +111,7 @@ module _ (limit : ℕ) where
   expected_by {i = i} {b = b} Colon w a k = choose (eqb b 58) _ _ k (λ e k. w.separates (or_right _ _ (or_left _ _ e)) Value (λ z. refl) (to_state _ k)) (λ e k. bad_not i k)
   expected_by After w a k = behind_by w refl a k
 
-  between_by : {X : Type 0} {i b : ℕ} {cs : List Container} {rest : State → List Container → Checked} (x : Expect) → Ways X x b cs rest → (a : Around) → Goes (between x a i b) limit i cs rest → X
+  between_by : {X : Type 0} {i b : ℕ} {cs : List Container} {rest : State → List Container → Option ℕ} (x : Expect) → Ways X x b cs rest → (a : Around) → Goes (between x a i b) limit i cs rest → X
   between_by {b = b} x w a k = choose (is_space b) _ _ k (λ e k. w.separates (or_left _ _ e) x (λ z. z) (to_state _ k)) (λ e k. expected_by x w a k)
 
   -- ---- tokens
@@ -169,7 +167,7 @@ module _ (limit : ℕ) where
     unfolding valued pick ◌or◌
     string_valued e q = rw e q
 
-  none_wanted : (e : Expect) (i : ℕ) (cs : List Container) → check [] limit i (Expects e) cs ≡ Fine → not (wanted e) ≡ true
+  none_wanted : (e : Expect) (i : ℕ) (cs : List Container) → check [] limit i (Expects e) cs ≡ None → not (wanted e) ≡ true
   unfolding check
   none_wanted Value i cs c = not_fine i c
   none_wanted ValueOrEnd i cs c = refl
@@ -179,7 +177,7 @@ module _ (limit : ℕ) where
   none_wanted After i cs c = refl
 
   -- k bytes are passed over, which belong to a token before
-  pub tokens_valued : (s : List ℕ) (k p i : ℕ) (e : Expect) (cs : List Container) → check (drop k s) limit i (Expects e) cs ≡ Fine → valued (scan s p k) (wanted e) ≡ true
+  pub tokens_valued : (s : List ℕ) (k p i : ℕ) (e : Expect) (cs : List Container) → check (drop k s) limit i (Expects e) cs ≡ None → valued (scan s p k) (wanted e) ≡ true
   unfolding scan
   tokens_valued [] zero p i e cs c = unfold valued in none_wanted e i cs c
   tokens_valued [] (suc k) p i e cs c = unfold valued in none_wanted e i cs c
@@ -208,15 +206,15 @@ module _ (limit : ℕ) where
           (λ z. subst P (sym (eqb-true b 125 z)) (end_object_valued s p (scan s (p + 1)) (wanted e) f q))
 
       quoted : eqb b 34 ≡ true → (n : Bool) → (n ≡ true → wanted e ≡ false) → Ends limit s 0 n cs →
-          ((k j : ℕ) (x : Expect) → check (drop k s) limit j (Expects x) cs ≡ Fine → valued (scan s (p + 1) k) (wanted x) ≡ true) → P b
+          ((k j : ℕ) (x : Expect) → check (drop k s) limit j (Expects x) cs ≡ None → valued (scan s (p + 1) k) (wanted x) ≡ true) → P b
       quoted t true f r ih = subst P (sym (eqb-true b 34 t)) (name_valued s p (scan s (p + 1)) (wanted e) (f refl) (ih (quoted_length s) r.at Colon r.fine))
       quoted t false f r ih =
           subst P (sym (eqb-true b 34 t)) (string_valued s p (scan s (p + 1)) (wanted e) (no_colon (drop (quoted_length s) s) r.at cs r.fine) (ih (quoted_length s) r.at After r.fine))
 
-  checked_some : (s : List ℕ) → verdict limit s ≡ Fine → 1 ≤ length s
+  checked_some : (s : List ℕ) → verdict limit s ≡ None → 1 ≤ length s
   unfolding check
   checked_some [] c = not_fine 0 c
   checked_some (b ∷ s) c = omega arith
 
-  pub checked_size : (s : List ℕ) → verdict limit s ≡ Fine → size (value_of s) ≤ length s
+  pub checked_size : (s : List ℕ) → verdict limit s ≡ None → size (value_of s) ≤ length s
   checked_size s c = value_size s (checked_some s c) (valued_weaker (scan s 0 0) (tokens_valued s 0 0 0 Value [] c))

@@ -2,12 +2,11 @@
 --     integer_brief    an INTEGER, and a separator
 --     float_brief      a FLOAT, and a separator
 --     truth_brief      a BOOLEAN, and a separator
-use Rattle.std.specs.Prelude.{◌≡◌, Bool, true, false, ℕ, zero, suc, ◌+◌, ◌-◌, ◌*◌, ◌^◌, ◌≤◌, ◌<◌, eqb, ltb, leb, length, take, drop}
+use Rattle.std.specs.Prelude.{◌≡◌, Bool, true, false, ℕ, zero, suc, ◌+◌, ◌-◌, ◌*◌, ◌^◌, ◌≤◌, ◌<◌, eqb, ltb, leb, length, take, drop, Option, None, Some}
 use Rattle.std.proofs.Math.Path.{refl}
 use Rattle.std.proofs.Common.{ap, arith, length-take, leb-true, eqb-true, ltb-true, ltb-false}
 use Rattle.std.proofs.lemmas.Bool.{false≢true}
 use mathlib.Core.List.{List, [], ◌∷◌}
-use Rattle.std.proofs.Math.Option.{Option, none, some}
 use Rattle.octets.specs.Ascii.{ascii}
 use Rattle.octets.specs.Pick.{pick, ◌and◌, ◌or◌}
 use Rattle.octets.specs.laws.Pick.{pick_either, pick_case, eqb_apart, or_no, or_cases}
@@ -82,40 +81,40 @@ unfolding has_minus after_sign value pick
 up_none s e = rw e
 
 -- a number below 100 with no zeros behind it, and 0 with any
-raised_plain : (v n : ℕ) → v < 100 → raised v 0 ≡ some n → n < 100
+raised_plain : (v n : ℕ) → v < 100 → raised v 0 ≡ Some n → n < 100
 unfolding pick
 raised_plain v n l h = go (eqb v 0) h
   where
-    go : (t : Bool) → pick t (some 0) (some (v * 10 ^ 0)) ≡ some n → n < 100
+    go : (t : Bool) → pick t (Some 0) (Some (v * 10 ^ 0)) ≡ Some n → n < 100
     go true k = let q : 0 ≡ n = cc in omega arith
     go false k = let q : v * 10 ^ 0 ≡ n = cc in omega arith
 
-raised_none : (k n : ℕ) → raised 0 k ≡ some n → n < 100
+raised_none : (k n : ℕ) → raised 0 k ≡ Some n → n < 100
 unfolding pick
 raised_none k n h = let q : 0 ≡ n = cc in omega arith
 
-lowered_small : (d : List ℕ) (k n : ℕ) → length d ≤ 2 → lowered d k ≡ some n → n < 100
+lowered_small : (d : List ℕ) (k n : ℕ) → length d ≤ 2 → lowered d k ≡ Some n → n < 100
 lowered_small d k n l h =
     let q = provided-some (all_of (λ b. eqb b digit_zero) (drop (length d - k) d)) (value 0 (take (length d - k) d)) n h in
     rw (← q.1) (small_value (take (length d - k) d) (omega (arith, length-take (length d - k) d)))
 
-moved_plain : (d : List ℕ) (l n : ℕ) → length d ≤ 2 → moved d 0 l ≡ some n → n < 100
+moved_plain : (d : List ℕ) (l n : ℕ) → length d ≤ 2 → moved d 0 l ≡ Some n → n < 100
 unfolding pick
 moved_plain d l n k h = go (leb l 0) refl h
   where
-    go : (t : Bool) → leb l 0 ≡ t → pick t (raised (value 0 d) (0 - l)) (lowered d (l - 0)) ≡ some n → n < 100
+    go : (t : Bool) → leb l 0 ≡ t → pick t (raised (value 0 d) (0 - l)) (lowered d (l - 0)) ≡ Some n → n < 100
     go true e h = let z : 0 - l ≡ 0 = omega arith in raised_plain (value 0 d) n (small_value d k) (rw z at h)
     go false e h = lowered_small d (l - 0) n k h
 
-moved_none : (u l n : ℕ) → moved [] u l ≡ some n → n < 100
+moved_none : (u l n : ℕ) → moved [] u l ≡ Some n → n < 100
 unfolding pick value
 moved_none u l n h = go (leb l u) h
   where
-    go : (t : Bool) → pick t (raised 0 (u - l)) (lowered [] (l - u)) ≡ some n → n < 100
+    go : (t : Bool) → pick t (raised 0 (u - l)) (lowered [] (l - u)) ≡ Some n → n < 100
     go true h = raised_none (u - l) n h
     go false h = lowered_small [] (l - u) n (omega arith) h
 
-moved_small : (s : List ℕ) (n : ℕ) → length s ≤ 2 → moved (int s ⊕ frac s) (up s) (down s) ≡ some n → n < 100
+moved_small : (s : List ℕ) (n : ℕ) → length s ≤ 2 → moved (int s ⊕ frac s) (up s) (down s) ≡ Some n → n < 100
 moved_small s n l h =
     exp_case s l
     (λ e. moved_plain (int s ⊕ frac s) (down s) n (omega (arith, parts_length s)) (rw (up_none s e) at h))
@@ -127,7 +126,7 @@ most_below : (m : Bool) → most m < 10 ^ 10
 most_below true = omega arith
 most_below false = omega arith
 
-pub integer_brief : (s : List ℕ) (w : Whole) → read_number s ≡ some w → length (write_integer w) + 1 ≤ 4 * name_bytes s
+pub integer_brief : (s : List ℕ) (w : Whole) → read_number s ≡ Some w → length (write_integer w) + 1 ≤ 4 * name_bytes s
 integer_brief s w h =
     let p = and_then-some (moved (int s ⊕ frac s) (up s) (down s)) (λ n. provided (leb n (most (has_minus s))) (integer_of (has_minus s) n)) w h in
     let n : ℕ = p.0 in
@@ -135,7 +134,7 @@ integer_brief s w h =
     let long : length (digits 9 n) ≤ 10 = digits_short 9 10 n (omega arith) (omega (arith, leb-true n (most (has_minus s)) q.0, most_below (has_minus s))) in
     rw (← q.1) (go (ltb 2 (length s)) refl n p.1 long)
   where
-    go : (t : Bool) → ltb 2 (length s) ≡ t → (n : ℕ) → moved (int s ⊕ frac s) (up s) (down s) ≡ some n → length (digits 9 n) ≤ 10 → length (write_integer (integer_of (has_minus s) n)) + 1 ≤ 4 * name_bytes s
+    go : (t : Bool) → ltb 2 (length s) ≡ t → (n : ℕ) → moved (int s ⊕ frac s) (up s) (down s) ≡ Some n → length (digits 9 n) ≤ 10 → length (write_integer (integer_of (has_minus s) n)) + 1 ≤ 4 * name_bytes s
     go true e n h long = omega (arith, signed_length (has_minus s and ltb 0 n) (digits 9 n), long, ltb-true 2 (length s) e, name_length s)
     go false e n h long = omega (arith, signed_length (has_minus s and ltb 0 n) (digits 9 n), digits_short 9 2 n (omega arith) (moved_small s n (ltb-false 2 (length s) e) h), name_some s)
 
@@ -149,33 +148,33 @@ digit_written m b =
     let one : length z ≤ 1 = pick_either (λ (l : List ℕ). length (or_zero l) ≤ 1) (eqb b 48) [] (b ∷ []) (unfold or_zero in omega arith) (unfold or_zero in omega arith) in
     omega (arith, one, length_both z (after_point (no_trailing [])), signed_length (normal (decimal m (b ∷ []) [])).minus (z ⊕ after_point (no_trailing [])))
 
-empty_none : {X : Type 0} (m : Bool) (ps : List (List ℕ)) (x : Decimal) → pointed m ([] ∷ ps) ≡ some x → X
+empty_none : {X : Type 0} (m : Bool) (ps : List (List ℕ)) (x : Decimal) → pointed m ([] ∷ ps) ≡ Some x → X
 unfolding pointed pick ◌and◌
 empty_none m ps x h = none-some h
 
-one_pointed : (m : Bool) (b : ℕ) (x : Decimal) → pointed m ((b ∷ []) ∷ []) ≡ some x → length (write_float (normal x)) ≤ 2
+one_pointed : (m : Bool) (b : ℕ) (x : Decimal) → pointed m ((b ∷ []) ∷ []) ≡ Some x → length (write_float (normal x)) ≤ 2
 unfolding pointed fraction pick and_then
 one_pointed m b x h = go (is_digits (b ∷ [])) h
   where
-    go : (t : Bool) → pick t (some (decimal m (b ∷ []) [])) none ≡ some x → length (write_float (normal x)) ≤ 2
+    go : (t : Bool) → pick t (Some (decimal m (b ∷ []) [])) None ≡ Some x → length (write_float (normal x)) ≤ 2
     go true k = let q : decimal m (b ∷ []) [] ≡ x = cc in rw (← q) (digit_written m b)
     go false k = none-some k
 
-one_spelled : (m : Bool) (b : ℕ) (x : Decimal) → pointed m (cut_at 46 (after_sign (b ∷ []))) ≡ some x → length (write_float (normal x)) ≤ 2
+one_spelled : (m : Bool) (b : ℕ) (x : Decimal) → pointed m (cut_at 46 (after_sign (b ∷ []))) ≡ Some x → length (write_float (normal x)) ≤ 2
 unfolding after_sign cut_at onto
 one_spelled m b x =
-    pick_either (λ (l : List ℕ). pointed m (cut_at 46 l) ≡ some x → length (write_float (normal x)) ≤ 2) (eqb b 45 or eqb b 43) [] (b ∷ []) (λ h. empty_none m [] x h)
-    (pick_either (λ (ps : List (List ℕ)). pointed m ps ≡ some x → length (write_float (normal x)) ≤ 2) (eqb b 46) ([] ∷ [] ∷ []) ((b ∷ []) ∷ []) (λ h. empty_none m ([] ∷ []) x h) (one_pointed m b x))
+    pick_either (λ (l : List ℕ). pointed m (cut_at 46 l) ≡ Some x → length (write_float (normal x)) ≤ 2) (eqb b 45 or eqb b 43) [] (b ∷ []) (λ h. empty_none m [] x h)
+    (pick_either (λ (ps : List (List ℕ)). pointed m ps ≡ Some x → length (write_float (normal x)) ≤ 2) (eqb b 46) ([] ∷ [] ∷ []) ((b ∷ []) ∷ []) (λ h. empty_none m ([] ∷ []) x h) (one_pointed m b x))
 
-one_float : (s : List ℕ) (d : Decimal) → length s ≤ 1 → read_float s ≡ some d → length (write_float d) ≤ 2
+one_float : (s : List ℕ) (d : Decimal) → length s ≤ 1 → read_float s ≡ Some d → length (write_float d) ≤ 2
 one_float [] d l h = absurd (let k = float_some [] d h in omega arith)
 one_float (b ∷ []) d l h =
-    let q = and_then-some (spelled (b ∷ [])) (λ x. some (normal x)) d h in
+    let q = and_then-some (spelled (b ∷ [])) (λ x. Some (normal x)) d h in
     let e : normal q.0 ≡ d = cc q.2 in
     rw (← e) (one_spelled (has_minus (b ∷ [])) b q.0 q.1)
 one_float (a ∷ b ∷ s) d l h = absurd (omega arith)
 
-pub float_brief : (s : List ℕ) (d : Decimal) → read_float s ≡ some d → length (write_float d) + 1 ≤ 4 * name_bytes s
+pub float_brief : (s : List ℕ) (d : Decimal) → read_float s ≡ Some d → length (write_float d) + 1 ≤ 4 * name_bytes s
 float_brief s d h = go (ltb 1 (length s)) refl
   where
     go : (t : Bool) → ltb 1 (length s) ≡ t → length (write_float d) + 1 ≤ 4 * name_bytes s
@@ -199,13 +198,13 @@ word_sizes : (4 ≤ literal_size (ascii "true")) × (4 ≤ literal_size (ascii "
 unfolding literal_size octets_compute
 word_sizes = (omega arith, omega arith, omega arith, omega arith)
 
-truth_size : (s : List ℕ) (b : Bool) → read_boolean xcal s ≡ some b → 4 ≤ literal_size s
+truth_size : (s : List ℕ) (b : Bool) → read_boolean xcal s ≡ Some b → 4 ≤ literal_size s
 unfolding pick
 truth_size s b h = go (is_one_of s truths) refl h
   where
-    go : (t : Bool) → is_one_of s truths ≡ t → pick t (some true) (provided (is_one_of s falsehoods) false) ≡ some b → 4 ≤ literal_size s
+    go : (t : Bool) → is_one_of s truths ≡ t → pick t (Some true) (provided (is_one_of s falsehoods) false) ≡ Some b → 4 ≤ literal_size s
     go true e k = one_long s (ascii "true") (ascii "1") word_sizes.0 word_sizes.1 e
     go false e k = one_long s (ascii "false") (ascii "0") word_sizes.2 word_sizes.3 (provided-some (is_one_of s falsehoods) false b k).0
 
-pub truth_brief : (s : List ℕ) (b : Bool) → read_boolean xcal s ≡ some b → length (write_boolean ical b) + 1 ≤ 4 * literal_size s
+pub truth_brief : (s : List ℕ) (b : Bool) → read_boolean xcal s ≡ Some b → length (write_boolean ical b) + 1 ≤ 4 * literal_size s
 truth_brief s b h = omega (arith, truth_size s b h, pick_either (λ (l : List ℕ). length l ≤ 5) b (ascii "TRUE") (ascii "FALSE") (omega arith) (omega arith))

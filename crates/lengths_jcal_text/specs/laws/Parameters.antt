@@ -1,11 +1,10 @@
 -- The text of parameters, by the size of their members: four bytes for each at most.
 --     parameters_brief
-use Rattle.std.specs.Prelude.{◌≡◌, Bool}
+use Rattle.std.specs.Prelude.{◌≡◌, Bool, Option, None, Some}
 use Rattle.std.proofs.Math.Path.{refl, ap}
 use Rattle.std.proofs.Math.Bool.{true, false}
 use Rattle.std.proofs.lemmas.Bool.{false≢true}
 use mathlib.Core.List.{List, [], ◌∷◌, map}
-use Rattle.std.proofs.Math.Option.{Option, none, some}
 use Prim.Native.Nat.{ℕ, suc, ◌+◌, ◌*◌, ◌≤◌}
 use native.Mathlib.Omega.{arith}
 use Rattle.std.proofs.Math.ListN.{length}
@@ -62,19 +61,19 @@ module _ (ed : Edition) where
   abbrev Kept : List ℕ → Value → Type 0
   Kept s v = length (encode ed (param_chars v)) ≤ 2 * length s
 
-  truth_kept : (s : List ℕ) (v : Value) → read_truth s ≡ some v → Kept s v
+  truth_kept : (s : List ℕ) (v : Value) → read_truth s ≡ Some v → Kept s v
   unfolding pick
   truth_kept s v h = go (same s (ascii "TRUE")) refl h
     where
-      go : (t : Bool) → same s (ascii "TRUE") ≡ t → pick t (some (boolean true)) (provided (same s (ascii "FALSE")) (boolean false)) ≡ some v → Kept s v
+      go : (t : Bool) → same s (ascii "TRUE") ≡ t → pick t (Some (boolean true)) (provided (same s (ascii "FALSE")) (boolean false)) ≡ Some v → Kept s v
       go true e k = let q : boolean true ≡ v = cc in rw (← q) (omega (arith, truth_length ed true, ap length (same_true s (ascii "TRUE") e)))
       go false e k =
           let f = provided-some (same s (ascii "FALSE")) (boolean false) v k in
           rw (← f.1) (omega (arith, truth_length ed false, ap length (same_true s (ascii "FALSE") f.0)))
 
-  typed_kept : (t : ValueType) (s : List ℕ) (v : Value) → is_type_of t parameter_types ≡ true → read_word_in none t s ≡ some v → Kept s v
+  typed_kept : (t : ValueType) (s : List ℕ) (v : Value) → is_type_of t parameter_types ≡ true → read_word_in None t s ≡ Some v → Kept s v
   unfolding schema_compute read_value write_value read_or pick
-  typed_kept TEXT s v p h = made (Kept s) text (some s) v h (λ x e. let z : s ≡ x = cc in rw (← z) (encode_short ed s))
+  typed_kept TEXT s v p h = made (Kept s) text (Some s) v h (λ x e. let z : s ≡ x = cc in rw (← z) (encode_short ed s))
   typed_kept URI s v p h = made (Kept s) uri (read_uri s) v h (λ x e. rw (← (provided-some (is_uri s) s x e).1) (encode_short ed s))
   typed_kept CAL-ADDRESS s v p h = made (Kept s) cal_address (read_uri s) v h (λ x e. rw (← (provided-some (is_uri s) s x e).1) (encode_short ed s))
   typed_kept BOOLEAN s v p h = truth_kept s v h
@@ -90,10 +89,10 @@ module _ (ed : Edition) where
   typed_kept TIME s v p h = absurd (false≢true p)
   typed_kept UTC-OFFSET s v p h = absurd (false≢true p)
 
-  word_kept : (n : List ℕ) (o : Option (List (List ℕ))) (s : List ℕ) (v : Value) → read_word_in o (parameter_type n) s ≡ some v → Kept s v
+  word_kept : (n : List ℕ) (o : Option (List (List ℕ))) (s : List ℕ) (v : Value) → read_word_in o (parameter_type n) s ≡ Some v → Kept s v
   unfolding read_or
-  word_kept n none s v h = typed_kept (parameter_type n) s v (parameter_type_lem n) h
-  word_kept n (some ws) s v h = rw (← (provided-some (is_one_of s ws) (text s) v h).1) (encode_short ed s)
+  word_kept n None s v h = typed_kept (parameter_type n) s v (parameter_type_lem n) h
+  word_kept n (Some ws) s v h = rw (← (provided-some (is_one_of s ws) (text s) v h).1) (encode_short ed s)
 
   -- quotes are two bytes
   quoted_length : (r : ParamValue) → length (write_param_value r) ≤ length r.chars + 2
@@ -109,7 +108,7 @@ module _ (ed : Edition) where
   abbrev reading : List ℕ → Json → Option Value
   reading n v = and_then (as_string v) (read_characters n)
 
-  values_brief : (n : List ℕ) (l : List Json) (vs : List Value) → read_each (reading n) l ≡ some vs → weight (written n vs) ≤ 4 * total l
+  values_brief : (n : List ℕ) (l : List Json) (vs : List Value) → read_each (reading n) l ≡ Some vs → weight (written n vs) ≤ 4 * total l
   unfolding read_each weight total
   values_brief n [] vs h = let q : [] ≡ vs = cc in rw (← q) (omega arith)
   values_brief n (j ∷ l) vs h =
@@ -121,7 +120,7 @@ module _ (ed : Edition) where
 
   -- ---- the parameters
 
-  parameter_brief : (m : Member) (p : Parameter) → read_parameter m ≡ some p → length (write_parameter (encoded_parameter ed (raw_of p))) ≤ 4 * (suc (length m.name) + size m.value)
+  parameter_brief : (m : Member) (p : Parameter) → read_parameter m ≡ Some p → length (write_parameter (encoded_parameter ed (raw_of p))) ≤ 4 * (suc (length m.name) + size m.value)
   unfolding read_parameter write_parameter
   parameter_brief m p h =
       let n : List ℕ = upper m.name in
@@ -131,7 +130,7 @@ module _ (ed : Edition) where
       let ws : List (List ℕ) = written n q.0 in
       rw (← e.1) (omega (arith, length_both n (61 ∷ joined_by 44 ws), joined_within 44 ws, values_brief n l q.0 q.1, alone_size m.value, upper-length m.name))
 
-  each_brief : (ms : List Member) (ps : List Parameter) → read_parameters ms ≡ some ps → bytes (map (encoded_parameter ed) (map raw_of ps)) ≤ 4 * member_total ms
+  each_brief : (ms : List Member) (ps : List Parameter) → read_parameters ms ≡ Some ps → bytes (map (encoded_parameter ed) (map raw_of ps)) ≤ 4 * member_total ms
   unfolding read_each joined member_total
   each_brief [] ps h = let q : [] ≡ ps = cc in rw (← q) (omega arith)
   each_brief (m ∷ ms) ps h =
@@ -147,5 +146,5 @@ module _ (ed : Edition) where
   parameters_brief ms = go (read_parameters ms) refl
     where
       go : (o : Option (List Parameter)) → read_parameters ms ≡ o → bytes (map (encoded_parameter ed) (map raw_of (read_or [] o))) ≤ 4 * member_total ms
-      go none e = omega arith
-      go (some ps) e = each_brief ms ps e
+      go None e = omega arith
+      go (Some ps) e = each_brief ms ps e

@@ -1,10 +1,9 @@
 -- The text of a recurrence rule, by the size of its members. Its parts are written in another order.
 --     rule_brief
-use Rattle.std.specs.Prelude.{◌≡◌, refl, Bool, List, [], ◌∷◌, map, ℕ, suc, ◌+◌, ◌*◌, ◌≤◌, length}
+use Rattle.std.specs.Prelude.{◌≡◌, refl, Bool, List, [], ◌∷◌, map, ℕ, suc, ◌+◌, ◌*◌, ◌≤◌, length, Option, None, Some}
 use Rattle.std.proofs.Common.{sym, ap, ◌∙◌}
 use Rattle.std.proofs.Math.Bool.{true, false}
 use Rattle.std.proofs.lemmas.Bool.{false≢true}
-use Rattle.std.proofs.Math.Option.{Option, none, some}
 use native.Mathlib.Omega.{arith}
 use Rattle.octets.specs.Pick.{pick, ◌or◌}
 use Rattle.octets.specs.laws.Pick.{pick_either, pick_second}
@@ -34,7 +33,7 @@ use Rattle.lengths_jcal_text.specs.laws.Sizes.{size, size_some, total, member_to
 
 -- ---- an item
 
-text_size : (k : ItemForm) (v : Json) (s : List ℕ) → item_text k v ≡ some s → length s ≤ size v
+text_size : (k : ItemForm) (v : Json) (s : List ℕ) → item_text k v ≡ Some s → length s ≤ size v
 text_size (word_of ws) v s h = omega (arith, as_string_lem v s h)
 text_size enddate v s h = omega (arith, as_string_lem v s h)
 text_size counting v s h = omega (arith, as_number_lem v s h, name_length s)
@@ -42,18 +41,18 @@ text_size (unsigned d lo hi) v s h = omega (arith, as_number_lem v s h, name_len
 text_size (signed d hi) v s h = omega (arith, as_number_lem v s h, name_length s)
 text_size weekdaynum v s h = omega (arith, as_string_lem v s h)
 
-form_length : (n : List ℕ) (r : Part) (s : List ℕ) (i : RuleItem) → part_of n ≡ some r → read_form xcal r.form s ≡ some i → length (write_item ical i) ≤ length s + 1
+form_length : (n : List ℕ) (r : Part) (s : List ℕ) (i : RuleItem) → part_of n ≡ Some r → read_form xcal r.form s ≡ Some i → length (write_item ical i) ≤ length s + 1
 unfolding and_then read_or
 form_length n r s i e h = rw (e, h) at (item_length n s)
 
-item_brief : (n : List ℕ) (r : Part) → part_of n ≡ some r → (v : Json) (i : RuleItem) → read_item r v ≡ some i → length (write_item ical i) + 1 ≤ 4 * size v
+item_brief : (n : List ℕ) (r : Part) → part_of n ≡ Some r → (v : Json) (i : RuleItem) → read_item r v ≡ Some i → length (write_item ical i) + 1 ≤ 4 * size v
 item_brief n r e v i h =
     let q = and_then-some (item_text r.form v) (read_form xcal r.form) i h in
     omega (arith, text_size r.form v q.0 q.1, form_length n r q.0 i e q.2, size_some v)
 
 -- ---- a part
 
-items_brief : (m : Member) (r : Part) (p : RulePart) → part_of (upper m.name) ≡ some r → read_items r (or_alone m.value) ≡ some p → length (write_part p) + 1 ≤ 4 * member_size m
+items_brief : (m : Member) (r : Part) (p : RulePart) → part_of (upper m.name) ≡ Some r → read_items r (or_alone m.value) ≡ Some p → length (write_part p) + 1 ≤ 4 * member_size m
 items_brief m r p e h =
     let vs : List Json = or_alone m.value in
     let q = and_then-some (read_each (read_item r) vs) (λ is. provided (is_amount r.listed is) (rule_part r.name is)) p h in
@@ -63,11 +62,11 @@ items_brief m r p e h =
     let name = ap length (row_named (λ (x : Part). x.name) (upper m.name) part_table r e) in
     rw (← f.1) (omega (arith, length_both r.name (61 ∷ joined_by 44 items), joined_within 44 items, read, total-costs vs, alone_size m.value, name, upper-length m.name))
 
-part_brief : (m : Member) (p : RulePart) → read_part m ≡ some p → length (write_part p) + 1 ≤ 4 * member_size m
+part_brief : (m : Member) (p : RulePart) → read_part m ≡ Some p → length (write_part p) + 1 ≤ 4 * member_size m
 unfolding pick
 part_brief m p h = go (same m.name (lower m.name)) h
   where
-    go : (t : Bool) → pick t (and_then (part_of (upper m.name)) (λ r. read_items r (or_alone m.value))) none ≡ some p → length (write_part p) + 1 ≤ 4 * member_size m
+    go : (t : Bool) → pick t (and_then (part_of (upper m.name)) (λ r. read_items r (or_alone m.value))) None ≡ Some p → length (write_part p) + 1 ≤ 4 * member_size m
     go true k = let q = and_then-some (part_of (upper m.name)) (λ r. read_items r (or_alone m.value)) p k in items_brief m q.0 p q.1 q.2
     go false k = none-some k
 
@@ -111,7 +110,7 @@ with_weight n [] l = omega arith
 with_weight n (x ∷ ps) l = go (same n x.part) (same x.part n) (same_either n x.part) (with_weight n ps l)
   where
     go : (a b : Bool) → a ≡ b → weight (map write_part (with_part (part_named n ps) l)) ≤ chosen (named n) ps + weight (map write_part l) →
-        weight (map write_part (with_part (pick a (some x) (part_named n ps)) l)) ≤ pick b (length (write_part x) + 1) 0 + chosen (named n) ps + weight (map write_part l)
+        weight (map write_part (with_part (pick a (Some x) (part_named n ps)) l)) ≤ pick b (length (write_part x) + 1) 0 + chosen (named n) ps + weight (map write_part l)
     go true true e ih = unfold weight in omega arith
     go true false e ih = absurd (false≢true (sym e))
     go false true e ih = absurd (false≢true e)
@@ -128,7 +127,7 @@ order_chosen (n ∷ ns) h ps =
 
 -- ---- a rule
 
-ruled_brief : (ms : List Member) (ps : List RulePart) → and_then (read_each read_part ms) ruled ≡ some ps → length (write_rule ps) ≤ 4 * member_total ms
+ruled_brief : (ms : List Member) (ps : List RulePart) → and_then (read_each read_part ms) ruled ≡ Some ps → length (write_rule ps) ≤ 4 * member_total ms
 ruled_brief ms ps h =
     let q = and_then-some (read_each read_part ms) ruled ps h in
     let e = provided-some _ (in_order part_names q.0) ps q.2 in
@@ -136,6 +135,6 @@ ruled_brief ms ps h =
     let order = order_chosen part_names names_once q.0 in
     rw (← e.1) (omega (arith, joined_within 59 (map write_part (in_order part_names q.0)), order, chosen-weight (λ m. is_one_of m part_names) q.0, read, member_costs ms))
 
-pub rule_brief : (ms : List Member) (v : Value) → read_recur ms ≡ some v → length (write_value v) ≤ 4 * member_total ms
+pub rule_brief : (ms : List Member) (v : Value) → read_recur ms ≡ Some v → length (write_value v) ≤ 4 * member_total ms
 unfolding write_value
 rule_brief ms v h = made (λ v. length (write_value v) ≤ 4 * member_total ms) recur (and_then (read_each read_part ms) ruled) v h (λ ps e. ruled_brief ms ps e)

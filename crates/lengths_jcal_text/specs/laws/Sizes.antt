@@ -5,9 +5,8 @@
 --     as_string_lem .. as_object_lem  the size of a value of a kind;   array_size: of any value, by its elements;   alone_size
 --     split_size                      the first three elements, and the others
 --     each_weight                     each of a list read, and written with a separator
-use Rattle.std.specs.Prelude.{◌≡◌, refl, ℕ, suc, ◌+◌, ◌*◌, ◌≤◌, length, drop}
+use Rattle.std.specs.Prelude.{◌≡◌, refl, ℕ, suc, ◌+◌, ◌*◌, ◌≤◌, length, drop, Option, None, Some}
 use mathlib.Core.List.{List, [], ◌∷◌, map}
-use Rattle.std.proofs.Math.Option.{Option, none, some}
 use native.Mathlib.Omega.{arith}
 use Rattle.octets.specs.Pick.{pick}
 use Rattle.octets.specs.laws.Pick.{pick_either}
@@ -75,7 +74,7 @@ members_total (member n v ms) = omega (arith, members_total ms)
 
 -- ---- by kind
 
-pub as_string_lem : (v : Json) (s : List ℕ) → as_string v ≡ some s → size v ≡ suc (length s)
+pub as_string_lem : (v : Json) (s : List ℕ) → as_string v ≡ Some s → size v ≡ suc (length s)
 unfolding size
 as_string_lem (string p t) s h = let q : t ≡ s = cc in rw q
 as_string_lem (number p t) s h = none-some h
@@ -83,7 +82,7 @@ as_string_lem (literal p t) s h = none-some h
 as_string_lem (array p e vs) s h = none-some h
 as_string_lem (object p e ms) s h = none-some h
 
-pub as_number_lem : (v : Json) (s : List ℕ) → as_number v ≡ some s → size v ≡ name_bytes s
+pub as_number_lem : (v : Json) (s : List ℕ) → as_number v ≡ Some s → size v ≡ name_bytes s
 unfolding size
 as_number_lem (string p t) s h = none-some h
 as_number_lem (number p t) s h = let q : t ≡ s = cc in rw q
@@ -91,7 +90,7 @@ as_number_lem (literal p t) s h = none-some h
 as_number_lem (array p e vs) s h = none-some h
 as_number_lem (object p e ms) s h = none-some h
 
-pub as_literal_lem : (v : Json) (s : List ℕ) → as_literal v ≡ some s → size v ≡ literal_size s
+pub as_literal_lem : (v : Json) (s : List ℕ) → as_literal v ≡ Some s → size v ≡ literal_size s
 unfolding size
 as_literal_lem (string p t) s h = none-some h
 as_literal_lem (number p t) s h = none-some h
@@ -99,7 +98,7 @@ as_literal_lem (literal p t) s h = let q : t ≡ s = cc in rw q
 as_literal_lem (array p e vs) s h = none-some h
 as_literal_lem (object p e ms) s h = none-some h
 
-pub as_array_lem : (v : Json) (l : List Json) → as_array v ≡ some l → size v ≡ suc (total l)
+pub as_array_lem : (v : Json) (l : List Json) → as_array v ≡ Some l → size v ≡ suc (total l)
 unfolding size
 as_array_lem (string p t) l h = none-some h
 as_array_lem (number p t) l h = none-some h
@@ -107,7 +106,7 @@ as_array_lem (literal p t) l h = none-some h
 as_array_lem (array p e vs) l h = let q : element_list vs ≡ l = cc in rw (← q) (omega (arith, elements_total vs))
 as_array_lem (object p e ms) l h = none-some h
 
-pub as_object_lem : (v : Json) (l : List Member) → as_object v ≡ some l → size v ≡ suc (member_total l)
+pub as_object_lem : (v : Json) (l : List Member) → as_object v ≡ Some l → size v ≡ suc (member_total l)
 unfolding size
 as_object_lem (string p t) l h = none-some h
 as_object_lem (number p t) l h = none-some h
@@ -121,22 +120,22 @@ unfolding read_or
 array_size v = go (as_array v) refl
   where
     go : (o : Option (List Json)) → as_array v ≡ o → suc (total (read_or [] o)) ≤ size v
-    go none e = unfold total in size_some v
-    go (some l) e = omega (arith, as_array_lem v l e)
+    go None e = unfold total in size_some v
+    go (Some l) e = omega (arith, as_array_lem v l e)
 
 pub alone_size : (v : Json) → total (or_alone v) ≤ size v
 unfolding read_or
 alone_size v = go (as_array v) refl
   where
     go : (o : Option (List Json)) → as_array v ≡ o → total (read_or (v ∷ []) o) ≤ size v
-    go none e = unfold total in omega arith
-    go (some l) e = omega (arith, as_array_lem v l e)
+    go None e = unfold total in omega arith
+    go (Some l) e = omega (arith, as_array_lem v l e)
 
 -- ---- by places
 
 unfoldable pub size_in : Option Json → ℕ
-size_in none = 0
-size_in (some v) = size v
+size_in None = 0
+size_in (Some v) = size v
 
 pub split_size : (l : List Json) → size_in (nth 0 l) + size_in (nth 1 l) + size_in (nth 2 l) + total (drop 3 l) ≡ total l
 unfolding total size_in
@@ -164,8 +163,8 @@ unfolding costs member_total
 member_costs [] = refl
 member_costs (m ∷ l) = omega (arith, member_costs l)
 
-module _ {A B : Type 0} (cost : A → ℕ) (reading : A → Option B) (writing : B → List ℕ) (brief : (a : A) (b : B) → reading a ≡ some b → length (writing b) + 1 ≤ 4 * cost a) where
-  pub each_weight : (l : List A) (r : List B) → read_each reading l ≡ some r → weight (map writing r) ≤ 4 * costs cost l
+module _ {A B : Type 0} (cost : A → ℕ) (reading : A → Option B) (writing : B → List ℕ) (brief : (a : A) (b : B) → reading a ≡ Some b → length (writing b) + 1 ≤ 4 * cost a) where
+  pub each_weight : (l : List A) (r : List B) → read_each reading l ≡ Some r → weight (map writing r) ≤ 4 * costs cost l
   unfolding read_each weight costs
   each_weight [] r h = let q : [] ≡ r = cc in rw (← q) (omega arith)
   each_weight (a ∷ l) r h =

@@ -2,13 +2,12 @@
 --     text_bound    `rate` bytes for each byte of the jCal;   text_fits: an output that has them is long enough;   text_short: of a jCal text within the limit
 --     lines_fit     each content line
 --     jcal_text_bound, jcal_text_short    the text of a jCal text whose whole verdict is fine
-use Rattle.std.specs.Prelude.{◌≡◌, Bool, ltb, leb}
+use Rattle.std.specs.Prelude.{◌≡◌, Bool, ltb, leb, Option, None, Some}
 use Rattle.std.proofs.Math.Path.{refl}
 use Rattle.std.proofs.Common.{ap, le-leb, leb-true}
 use Rattle.std.proofs.Math.Bool.{true, false}
 use Rattle.std.proofs.lemmas.Bool.{false≢true}
 use mathlib.Core.List.{List, [], ◌∷◌, map}
-use Rattle.std.proofs.Math.Option.{Option, none, some}
 use Prim.Native.Nat.{ℕ, zero, suc, ◌+◌, ◌-◌, ◌*◌, ◌^◌, ◌≤◌, ◌<◌}
 use native.Mathlib.Omega.{arith}
 use Rattle.std.proofs.Math.ListN.{length}
@@ -35,8 +34,6 @@ use Rattle.json_text.specs.Bytes.{most_open}
 use Rattle.json_text.specs.Check.{verdict}
 use Rattle.json_text.specs.Tree.{Json, string, number, literal, array, object, Elements, no_elements, element, element_list, value_of}
 use Rattle.json_text.specs.Kinds.{as_array, nth}
-use Rattle.json_text.specs.declared.Checked.{Checked}
-use Rattle.json_text.specs.declared.Checked.TheVariants.{Fine, At}
 use Rattle.jcal.specs.Property.{name_in, is_bad_name, passes, property_of}
 use Rattle.jcal.specs.Components.{at, properties_verdict, component_name, property_arrays, component_arrays, read_properties, is_component, component_fault, method_inside, is_complete, components_verdict, component_verdict, inner_verdict, array_verdict, read_components, read_inside, read_inner, read_array, read_calendars, stream_in, is_stream, calendars_in}
 use Rattle.jcal.specs.ReadJcal.{json, jcal_verdict}
@@ -57,15 +54,15 @@ unfolding read_or is_read
 arrays_size l h = go (property_arrays l) refl h
   where
     go : (o : Option (List Json)) → property_arrays l ≡ o → is_read o ≡ true → total (read_or [] o) + 1 ≤ size_in (nth 1 l)
-    go none e h = absurd (false≢true h)
-    go (some xs) e h = let q = and_then-some (nth 1 l) as_array xs e in rw q.1 (unfold size_in in omega (arith, as_array_lem q.0 xs q.2))
+    go None e h = absurd (false≢true h)
+    go (Some xs) e h = let q = and_then-some (nth 1 l) as_array xs e in rw q.1 (unfold size_in in omega (arith, as_array_lem q.0 xs q.2))
 
 -- a component's array with no fault of its own
 record Sound (l : List Json) : Type 0 where
   name : length (component_name l) + 1 ≤ size_in (nth 0 l)
   properties : total (read_or [] (property_arrays l)) + 1 ≤ size_in (nth 1 l)
 
-fault_sound : (may : List ℕ → Bool) (left : ℕ) (l : List Json) → component_fault may left l ≡ none → Sound l
+fault_sound : (may : List ℕ → Bool) (left : ℕ) (l : List Json) → component_fault may left l ≡ None → Sound l
 unfolding component_fault
 fault_sound may left l h =
     let a = past_fault (passes is_bad_name (name_in l)) NAME _ h in
@@ -167,10 +164,10 @@ calendars_size : (v : Json) → sizes (calendars_in v) ≤ size v
 unfolding calendars_in sizes
 calendars_size v = pick_either (λ (vs : Elements). sizes vs ≤ size v) (is_stream v) (stream_in v) (element v no_elements) (stream_size v) (omega arith)
 
-text_size : (s : List ℕ) → verdict most_open s ≡ Fine → sizes (calendars_in (value_of s)) ≤ length s
+text_size : (s : List ℕ) → verdict most_open s ≡ None → sizes (calendars_in (value_of s)) ≤ length s
 text_size s c = omega (arith, calendars_size (value_of s), checked_size most_open s c)
 
-module _ (ed : Edition) (s : List ℕ) (c : verdict most_open s ≡ Fine) where
+module _ (ed : Edition) (s : List ℕ) (c : verdict most_open s ≡ None) where
   module _ (f : components_verdict ed (calendars_in (value_of s)) at_top levels false ≡ fine) where
     pub text_bound : length (write_calendar ed (read_calendars (calendars_in (value_of s)))) ≤ rate * length s
     text_bound = omega (arith, shallow-length ed (read_components (calendars_in (value_of s))) levels, components_length ed (calendars_in (value_of s)) at_top levels false f, text_size s c)
@@ -242,14 +239,14 @@ module _ (ed : Edition) where
       pick_either (λ c. fits ed room c ≡ true) (ltb 0 l) (component n ps (shallow (l - 1) inner) (shallow l next)) no_more
       (and_yes _ _ a.0 (and_yes _ _ (shallow_fits inner (l - 1) b.0) (shallow_fits next l b.1))) refl
 
-  pub lines_fit : (s : List ℕ) → verdict most_open s ≡ Fine → length s ≤ 65535 → fits ed 262144 (read_calendars (calendars_in (value_of s))) ≡ true
+  pub lines_fit : (s : List ℕ) → verdict most_open s ≡ None → length s ≤ 65535 → fits ed 262144 (read_calendars (calendars_in (value_of s))) ≡ true
   lines_fit s c h = shallow_fits (read_components (calendars_in (value_of s))) levels (components_fit (calendars_in (value_of s)) (omega (arith, text_size s c)))
 
 -- ---- the whole verdict
 
-json_fine : (c : Checked) → json c ≡ fine → c ≡ Fine
-json_fine Fine h = refl
-json_fine (At p) h = refused_not JSON p h
+json_fine : (c : Option ℕ) → json c ≡ fine → c ≡ None
+json_fine None h = refl
+json_fine (Some p) h = refused_not JSON p h
 
 pub jcal_text_short : (ed : Edition) (s : List ℕ) → jcal_verdict ed s ≡ fine → length (write_calendar ed (read_calendars (calendars_in (value_of s)))) < 2 ^ 32
 unfolding jcal_verdict

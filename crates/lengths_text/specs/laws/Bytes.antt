@@ -3,9 +3,8 @@
 --     bytes_of        the bytes of marks
 --     scan_within     marks have no more bytes than what they are read from
 --     root_within     nor has the root's tag with what follows it
-use Rattle.std.specs.Prelude.{◌≡◌, refl, true, List, [], ◌∷◌, ℕ, zero, suc, ◌+◌, ◌-◌, ◌≤◌, eqb, ltb, length, take}
+use Rattle.std.specs.Prelude.{◌≡◌, refl, true, List, [], ◌∷◌, ℕ, zero, suc, ◌+◌, ◌-◌, ◌≤◌, eqb, ltb, length, take, Option, None, Some}
 use Rattle.std.proofs.lemmas.Bool.{false≢true}
-use Rattle.std.proofs.Math.Option.{Option, none, some}
 use Prim.{Unit, tt}
 use native.Mathlib.Omega.{arith}
 use Rattle.std.proofs.Common.{length-take, ltb-true}
@@ -61,10 +60,10 @@ Fits (char_byte b k) s = Unit {0}
 Fits (reference_to v k) s = length (spell v) + (length s - k) ≤ suc (length s)
 Fits no_token s = Unit {0}
 
-both_most : (a : ℕ) (o : Option ℕ) (n : ℕ) → both a o ≡ some n → a ≤ n
+both_most : (a : ℕ) (o : Option ℕ) (n : ℕ) → both a o ≡ Some n → a ≤ n
 unfolding both
-both_most a none n h = none-some h
-both_most a (some m) n h = let q : a + m ≡ n = cc in omega arith
+both_most a None n h = none-some h
+both_most a (Some m) n h = let q : a + m ≡ n = cc in omega arith
 
 -- a name begins with a letter
 letter_counts : (s : List ℕ) → is_alpha (first s) ≡ true → 1 ≤ span_len is_name_char s
@@ -73,7 +72,7 @@ letter_counts [] h = absurd (false≢true (unfold ◌and◌ ◌or◌ in h))
 letter_counts (b ∷ s) h = rw (or_left (is_alpha b) (is_digit b or eqb b 45) h) (unfold pick in omega arith)
 
 -- a tag that begins with a name has the bytes of the name
-name_within : (rest : Piece) (s : List ℕ) (n : ℕ) → (xml_name then rest) s ≡ some n → name_bytes (name_of s) ≤ n
+name_within : (rest : Piece) (s : List ℕ) (n : ℕ) → (xml_name then rest) s ≡ Some n → name_bytes (name_of s) ≤ n
 unfolding ◌then◌ xml_name name_of
 name_within rest s n h =
     let q = and_then-some (xml_name s) (λ n. both n (rest (from n s))) n h in
@@ -81,10 +80,10 @@ name_within rest s n h =
     let l : span_len is_name_char s ≤ n = omega (arith, e.1, both_most q.0 (rest (from q.0 s)) n q.2) in
     name_most (take (span_len is_name_char s) s) n (omega (arith, letter_counts s e.0)) (omega (arith, length-take (span_len is_name_char s) s))
 
-start_fits : (o : Option ℕ) (s : List ℕ) → ((n : ℕ) → o ≡ some n → name_bytes (name_of s) ≤ n) → Fits (start_by o s) s
+start_fits : (o : Option ℕ) (s : List ℕ) → ((n : ℕ) → o ≡ Some n → name_bytes (name_of s) ≤ n) → Fits (start_by o s) s
 unfolding start_by
-start_fits none s h = tt
-start_fits (some n) s h =
+start_fits None s h = tt
+start_fits (Some n) s h =
     pick_case (λ t. Fits t s) (starts (ascii ">") (from n s)) (s_tag (name_of s) (n + 1)) _
     (λ e. omega (arith, h n refl, starts-length (ascii ">") (from n s) e, length_from n s))
     (λ d. pick_case (λ t. Fits t s) (starts (ascii "/>") (from n s)) (empty_elem_tag (name_of s) (n + 2)) no_token
@@ -92,8 +91,8 @@ start_fits (some n) s h =
 
 end_fits : (o : Option ℕ) (r s : List ℕ) → Fits (end_by o r) s
 unfolding end_by
-end_fits none r s = tt
-end_fits (some n) r s = tt
+end_fits None r s = tt
+end_fits (Some n) r s = tt
 
 tag_fits : (s : List ℕ) → Fits (tag s) s
 unfolding tag

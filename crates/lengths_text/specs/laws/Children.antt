@@ -2,8 +2,7 @@
 --     named_text           the characters of the first of them;   text_within: by the size of all children
 --     parameters_part_lem  the size of the `parameters` of a property
 --     inside_size          the size of what stands in the first child of a name
-use Rattle.std.specs.Prelude.{◌≡◌, refl, Bool, true, false, List, [], ℕ, ◌+◌, ◌≤◌, length}
-use Rattle.std.proofs.Math.Option.{some}
+use Rattle.std.specs.Prelude.{◌≡◌, refl, Bool, true, false, List, [], ℕ, ◌+◌, ◌≤◌, length, Some}
 use native.Mathlib.Omega.{arith}
 use Rattle.octets.specs.Ascii.{ascii}
 use Rattle.octets.specs.Pick.{pick}
@@ -29,7 +28,7 @@ named_text n (referred p bs more) = named_text n more
 named_text n (element p m x kids more) = go (same n m) refl (named_text n more)
   where
     go : (t : Bool) → same n m ≡ t → length (text_of n more) ≤ part (named n) more →
-        length (read_or [] (pick t (some (characters_of kids)) (child_named n more))) ≤ pick (same m n) (name_bytes m + 2 + size kids) 0 + part (named n) more
+        length (read_or [] (pick t (Some (characters_of kids)) (child_named n more))) ≤ pick (same m n) (name_bytes m + 2 + size kids) 0 + part (named n) more
     go true e ih = rw (swapped n m e) (omega (arith, characters_size kids))
     go false e ih = omega (arith, ih)
 

@@ -1,12 +1,11 @@
 -- The text of parameters, by the size of their elements.
 --     parameters_length
-use Rattle.std.specs.Prelude.{◌≡◌, Bool, length}
+use Rattle.std.specs.Prelude.{◌≡◌, Bool, length, Option, None, Some}
 use Rattle.std.proofs.Math.Path.{refl}
 use Rattle.std.proofs.Common.{ap}
 use Rattle.std.proofs.Math.Bool.{true, false}
 use Rattle.std.proofs.lemmas.Bool.{false≢true}
 use mathlib.Core.List.{List, [], ◌∷◌, map}
-use Rattle.std.proofs.Math.Option.{Option, none, some}
 use Prim.Native.Nat.{ℕ, suc, ◌+◌, ◌*◌, ◌≤◌}
 use native.Mathlib.Omega.{arith}
 use Rattle.octets.specs.Pick.{pick}
@@ -59,9 +58,9 @@ truth_length Rfc6868 true = omega arith
 truth_length Rfc6868 false = omega arith
 
 -- the characters of a value, encoded
-chars_length : (ed : Edition) (t : ValueType) (s : List ℕ) (v : Value) → is_type_of t parameter_types ≡ true → read_word_in none t s ≡ some v → length (encode ed (param_chars v)) ≤ 2 * length s + 5
+chars_length : (ed : Edition) (t : ValueType) (s : List ℕ) (v : Value) → is_type_of t parameter_types ≡ true → read_word_in None t s ≡ Some v → length (encode ed (param_chars v)) ≤ 2 * length s + 5
 unfolding schema_compute read_value write_value read_or pick
-chars_length ed TEXT s v p h = made (λ v. length (encode ed (param_chars v)) ≤ 2 * length s + 5) text (some s) v h (λ x e. let z : s ≡ x = cc in rw (← z) (omega (arith, encode_short ed s)))
+chars_length ed TEXT s v p h = made (λ v. length (encode ed (param_chars v)) ≤ 2 * length s + 5) text (Some s) v h (λ x e. let z : s ≡ x = cc in rw (← z) (omega (arith, encode_short ed s)))
 chars_length ed URI s v p h = made (λ v. length (encode ed (param_chars v)) ≤ 2 * length s + 5) uri (read_uri s) v h (λ x e. rw (← (provided-some (is_uri s) s x e).1) (omega (arith, encode_short ed s)))
 chars_length ed CAL-ADDRESS s v p h = made (λ v. length (encode ed (param_chars v)) ≤ 2 * length s + 5) cal_address (read_uri s) v h (λ x e. rw (← (provided-some (is_uri s) s x e).1) (omega (arith, encode_short ed s)))
 chars_length ed BOOLEAN s v p h = made (λ v. length (encode ed (param_chars v)) ≤ 2 * length s + 5) boolean (read_boolean xcal s) v h (λ x e. omega (arith, truth_length ed x))
@@ -77,16 +76,16 @@ chars_length ed RECUR s v p h = absurd (false≢true p)
 chars_length ed TIME s v p h = absurd (false≢true p)
 chars_length ed UTC-OFFSET s v p h = absurd (false≢true p)
 
-word_length : (ed : Edition) (n : List ℕ) (o : Option (List (List ℕ))) (s : List ℕ) (v : Value) → read_word_in o (parameter_type n) s ≡ some v → length (encode ed (param_chars v)) ≤ 2 * length s + 5
+word_length : (ed : Edition) (n : List ℕ) (o : Option (List (List ℕ))) (s : List ℕ) (v : Value) → read_word_in o (parameter_type n) s ≡ Some v → length (encode ed (param_chars v)) ≤ 2 * length s + 5
 unfolding read_or
-word_length ed n none s v h = chars_length ed (parameter_type n) s v (parameter_type_lem n) h
-word_length ed n (some ws) s v h = rw (← (provided-some (is_one_of s ws) (text s) v h).1) (omega (arith, encode_short ed s))
+word_length ed n None s v h = chars_length ed (parameter_type n) s v (parameter_type_lem n) h
+word_length ed n (Some ws) s v h = rw (← (provided-some (is_one_of s ws) (text s) v h).1) (omega (arith, encode_short ed s))
 
-node_length : (ed : Edition) (n : List ℕ) (kids : Nodes) (v : Value) → read_param_node n kids ≡ some v → length (encode ed (param_chars v)) ≤ 2 * size kids + 5
+node_length : (ed : Edition) (n : List ℕ) (kids : Nodes) (v : Value) → read_param_node n kids ≡ Some v → length (encode ed (param_chars v)) ≤ 2 * size kids + 5
 unfolding read_param_node pick
 node_length ed n kids v h = go (has_element kids) h
   where
-    go : (t : Bool) → pick t none (read_word_in (parameter_words n) (parameter_type n) (characters_of kids)) ≡ some v → length (encode ed (param_chars v)) ≤ 2 * size kids + 5
+    go : (t : Bool) → pick t None (read_word_in (parameter_words n) (parameter_type n) (characters_of kids)) ≡ Some v → length (encode ed (param_chars v)) ≤ 2 * size kids + 5
     go true k = none-some k
     go false k = omega (arith, word_length ed n (parameter_words n) (characters_of kids) v k, characters_size kids)
 
@@ -102,12 +101,12 @@ module _ (ed : Edition) where
   abbrev written : List ℕ → List Value → List (List ℕ)
   written n vs = map write_param_value (map (encoded_value ed) (map (param_value_of n) vs))
 
-  nodes_length : (n : List ℕ) (ns : Nodes) (vs : List Value) → read_param_nodes n ns ≡ some vs → weight (written n vs) ≤ 2 * size ns
+  nodes_length : (n : List ℕ) (ns : Nodes) (vs : List Value) → read_param_nodes n ns ≡ Some vs → weight (written n vs) ≤ 2 * size ns
   unfolding read_param_nodes size pick weight
   nodes_length n no_nodes vs h = let q : [] ≡ vs = cc in rw (← q) (omega arith)
   nodes_length n (literal p b more) vs h = go (is_space b) h (nodes_length n more vs)
     where
-      go : (t : Bool) → pick t (read_param_nodes n more) none ≡ some vs → (read_param_nodes n more ≡ some vs → weight (written n vs) ≤ 2 * size more) → weight (written n vs) ≤ 2 * suc (size more)
+      go : (t : Bool) → pick t (read_param_nodes n more) None ≡ Some vs → (read_param_nodes n more ≡ Some vs → weight (written n vs) ≤ 2 * size more) → weight (written n vs) ≤ 2 * suc (size more)
       go true k ih = omega (arith, ih k)
       go false k ih = none-some k
   nodes_length n (referred p bs more) vs h = none-some h
@@ -119,7 +118,7 @@ module _ (ed : Edition) where
       read : Option (List Value)
       read = and_then (read_param_node n kids) (λ v. cons_read v (read_param_nodes n more))
 
-      go : (b : Bool) → same m (lower (type_name t)) ≡ b → pick b read none ≡ some vs → ((ws : List Value) → read_param_nodes n more ≡ some ws → weight (written n ws) ≤ 2 * size more) →
+      go : (b : Bool) → same m (lower (type_name t)) ≡ b → pick b read None ≡ Some vs → ((ws : List Value) → read_param_nodes n more ≡ Some ws → weight (written n ws) ≤ 2 * size more) →
           weight (written n vs) ≤ 2 * (name_bytes m + 2 + size kids + size more)
       go true e k ih =
           let f = and_then-some (read_param_node n kids) (λ v. cons_read v (read_param_nodes n more)) vs k in
@@ -134,8 +133,8 @@ module _ (ed : Edition) where
   or_length n ns = go (read_param_nodes n ns) refl
     where
       go : (o : Option (List Value)) → read_param_nodes n ns ≡ o → weight (written n (read_or [] o)) ≤ 2 * size ns
-      go none e = omega arith
-      go (some vs) e = nodes_length n ns vs e
+      go None e = omega arith
+      go (Some vs) e = nodes_length n ns vs e
 
   -- ---- the parameters
 

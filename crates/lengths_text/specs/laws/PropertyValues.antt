@@ -1,8 +1,7 @@
 -- The text of a property's values, by the size of its children. No child is a value and the parameters too.
 --     values_length    the values of any property, beside its parameters;   named_length: and the name of their type
-use Rattle.std.specs.Prelude.{◌≡◌, refl, true, false, List, [], ◌∷◌, map, ℕ, ◌+◌, ◌*◌, ◌≤◌, length}
+use Rattle.std.specs.Prelude.{◌≡◌, refl, true, false, List, [], ◌∷◌, map, ℕ, ◌+◌, ◌*◌, ◌≤◌, length, Option, None, Some}
 use Rattle.std.proofs.Common.{ap, arith}
-use Rattle.std.proofs.Math.Option.{Option, none, some}
 use Rattle.octets.specs.Ascii.{ascii}
 use Rattle.octets.specs.Pick.{◌or◌}
 use Rattle.octets.specs.laws.Pick.{pick_either, pick_case}
@@ -40,16 +39,16 @@ unfolding read_or
 float_or s = go (read_float s) refl
   where
     go : (o : Option Decimal) → read_float s ≡ o → length (write_float (read_or zero' o)) ≤ length s + 3
-    go none e = omega (arith, written_length zero')
-    go (some d) e = float_length s d e
+    go None e = omega (arith, written_length zero')
+    go (Some d) e = float_length s d e
 
 float_part : (n : List ℕ) (ns : Nodes) → length (write_float (float_of n ns)) ≤ part (named n) ns + 3
 float_part n ns = omega (arith, float_or (text_of n ns), named_text n ns)
 
 status_length : (c d : List ℕ) (x : Option (List ℕ)) → length (write_request_status c d x) ≤ 2 * (length c + length d + length (read_or [] x)) + 3
 unfolding read_or weight
-status_length c d none = omega (arith, joined_within 59 (map write_text (status_parts c d none)), escaped_most c, escaped_most d)
-status_length c d (some x) = omega (arith, joined_within 59 (map write_text (status_parts c d (some x))), escaped_most c, escaped_most d, escaped_most x)
+status_length c d None = omega (arith, joined_within 59 (map write_text (status_parts c d None)), escaped_most c, escaped_most d)
+status_length c d (Some x) = omega (arith, joined_within 59 (map write_text (status_parts c d (Some x))), escaped_most c, escaped_most d, escaped_most x)
 
 -- ---- the values of a property, beside its parameters
 

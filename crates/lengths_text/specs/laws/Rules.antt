@@ -1,9 +1,8 @@
 -- The text of a recurrence rule, by the size of its elements: an item for each of them. A part's name is written once, and stands in each of its elements.
 --     item_length    the text of an item
 --     rule_length    the text of a rule
-use Rattle.std.specs.Prelude.{◌≡◌, refl, Bool, true, false, List, [], ◌∷◌, map, ℕ, ◌+◌, ◌*◌, ◌≤◌, leb, length}
+use Rattle.std.specs.Prelude.{◌≡◌, refl, Bool, true, false, List, [], ◌∷◌, map, ℕ, ◌+◌, ◌*◌, ◌≤◌, leb, length, Option, None, Some}
 use Rattle.std.proofs.Common.{ap, leb-true}
-use Rattle.std.proofs.Math.Option.{Option, none, some}
 use native.Mathlib.Omega.{arith}
 use Rattle.octets.specs.Pick.{pick}
 use Rattle.octets.specs.laws.Pick.{pick_either}
@@ -34,42 +33,42 @@ use Rattle.lengths_text.specs.laws.Values.{date_kept, date_time_kept}
 
 -- ---- an item
 
-enddate_kept : (s m : List ℕ) → read_enddate xcal s ≡ some m → length m ≤ length s
+enddate_kept : (s m : List ℕ) → read_enddate xcal s ≡ Some m → length m ≤ length s
 enddate_kept s m h = go (read_date xcal s) refl h
   where
-    go : (o : Option (List ℕ)) → read_date xcal s ≡ o → or_other o (read_date_time xcal s) ≡ some m → length m ≤ length s
-    go none e k = date_time_kept s m k
-    go (some d) e k = let q : d ≡ m = cc in rw (← q) (date_kept s d e)
+    go : (o : Option (List ℕ)) → read_date xcal s ≡ o → or_other o (read_date_time xcal s) ≡ Some m → length m ≤ length s
+    go None e k = date_time_kept s m k
+    go (Some d) e k = let q : d ≡ m = cc in rw (← q) (date_kept s d e)
 
 enddate_written : (m : List ℕ) → length (write_item ical (moment m)) ≡ length m
 unfolding write_date write_date_time
 enddate_written m = pick_either (λ (l : List ℕ). length l ≡ length m) (is_date m) m m refl refl
 
-word_length : (ws : List (List ℕ)) (s w : List ℕ) → read_word xcal ws s ≡ some w → length w ≡ length s
+word_length : (ws : List (List ℕ)) (s w : List ℕ) → read_word xcal ws s ≡ Some w → length w ≡ length s
 word_length ws s w h = rw (← (provided-some (is_one_of s ws) s w h).1)
 
-number_length : (o : Option Whole) (s : List ℕ) (i : RuleItem) → ((w : Whole) → o ≡ some w → Counted s w) → and_then o (λ w. some (number w)) ≡ some i →
+number_length : (o : Option Whole) (s : List ℕ) (i : RuleItem) → ((w : Whole) → o ≡ Some w → Counted s w) → and_then o (λ w. Some (number w)) ≡ Some i →
     length (write_item ical i) ≤ length s + 1
 number_length o s i f h =
-    let q = and_then-some o (λ w. some (number w)) i h in
+    let q = and_then-some o (λ w. Some (number w)) i h in
     let e : number q.0 ≡ i = cc q.2 in
     rw (← e) (f q.0 q.1).1
 
-form_length : (k : ItemForm) (s : List ℕ) (i : RuleItem) → read_form xcal k s ≡ some i → length (write_item ical i) ≤ length s + 1
+form_length : (k : ItemForm) (s : List ℕ) (i : RuleItem) → read_form xcal k s ≡ Some i → length (write_item ical i) ≤ length s + 1
 form_length (word_of ws) s i h =
-    let q = and_then-some (read_word xcal ws s) (λ w. some (word w)) i h in
+    let q = and_then-some (read_word xcal ws s) (λ w. Some (word w)) i h in
     let e : word q.0 ≡ i = cc q.2 in
     rw (← e) (omega (arith, word_length ws s q.0 q.1))
 form_length enddate s i h =
-    let q = and_then-some (read_enddate xcal s) (λ m. some (moment m)) i h in
+    let q = and_then-some (read_enddate xcal s) (λ m. Some (moment m)) i h in
     let e : moment q.0 ≡ i = cc q.2 in
     rw (← e) (omega (arith, enddate_kept s q.0 q.1, enddate_written q.0))
 form_length counting s i h = number_length (read_counting s) s i (counting_read s) h
 form_length (unsigned d lo hi) s i h = number_length (read_unsigned d lo hi s) s i (unsigned_read d lo hi s) h
 form_length (signed d hi) s i h = number_length (read_signed d hi s) s i (signed_read d hi s) h
 form_length weekdaynum s i h =
-    let p = and_then-some (read_ordinal (up_to is_alpha s)) (λ o. and_then (read_word xcal weekdays (from_on is_alpha s)) (λ d. some (weekday o d))) i h in
-    let q = and_then-some (read_word xcal weekdays (from_on is_alpha s)) (λ d. some (weekday p.0 d)) i p.2 in
+    let p = and_then-some (read_ordinal (up_to is_alpha s)) (λ o. and_then (read_word xcal weekdays (from_on is_alpha s)) (λ d. Some (weekday o d))) i h in
+    let q = and_then-some (read_word xcal weekdays (from_on is_alpha s)) (λ d. Some (weekday p.0 d)) i p.2 in
     let e : weekday p.0 q.0 ≡ i = cc q.2 in
     let word = word_length weekdays (from_on is_alpha s) q.0 q.1 in
     rw (← e) (omega (arith, length_both (write_ordinal p.0) q.0, ordinal_read (up_to is_alpha s) p.0 p.1, word, split_length is_alpha s))
@@ -79,8 +78,8 @@ unfolding read_or
 item_length n s = go (read_item xcal n s) refl
   where
     go : (o : Option RuleItem) → read_item xcal n s ≡ o → length (write_item ical (read_or (word []) o)) ≤ length s + 1
-    go none e = omega arith
-    go (some i) e = let q = and_then-some (part_of n) (λ r. read_form xcal r.form s) i e in form_length q.0.form s i q.2
+    go None e = omega arith
+    go (Some i) e = let q = and_then-some (part_of n) (λ r. read_form xcal r.form s) i e in form_length q.0.form s i q.2
 
 -- ---- a part
 

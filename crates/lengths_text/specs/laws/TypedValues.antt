@@ -2,9 +2,8 @@
 --     type_least      the name of a type has three letters at least
 --     typed           a name that is a type's
 --     typed_length    the values of the children that have such names;   typed_name: the name of their type
-use Rattle.std.specs.Prelude.{◌≡◌, refl, Bool, true, false, List, [], ◌∷◌, map, ℕ, ◌+◌, ◌*◌, ◌≤◌, leb, length}
+use Rattle.std.specs.Prelude.{◌≡◌, refl, Bool, true, false, List, [], ◌∷◌, map, ℕ, ◌+◌, ◌*◌, ◌≤◌, leb, length, Option, None, Some}
 use Rattle.std.proofs.Common.{ap, arith, leb-true}
-use Rattle.std.proofs.Math.Option.{Option, none, some}
 use Rattle.octets.specs.Ascii.{ascii}
 use Rattle.octets.specs.Pick.{pick}
 use Rattle.octets.specs.laws.Pick.{pick_either}
@@ -42,24 +41,24 @@ unfolding read_or
 moment_length n ns = go (read_date_time xcal (text_of n ns)) refl
   where
     go : (o : Option (List ℕ)) → read_date_time xcal (text_of n ns) ≡ o → length (read_or [] o) ≤ size ns
-    go none e = omega arith
-    go (some v) e = omega (arith, date_time_kept (text_of n ns) v e, text_within n ns)
+    go None e = omega arith
+    go (Some v) e = omega (arith, date_time_kept (text_of n ns) v e, text_within n ns)
 
 duration_or : (s : List ℕ) → length (read_or [] (read_duration xcal s)) ≤ length s
 unfolding read_or
 duration_or s = go (read_duration xcal s) refl
   where
     go : (o : Option (List ℕ)) → read_duration xcal s ≡ o → length (read_or [] o) ≤ length s
-    go none e = omega arith
-    go (some v) e = duration_length s v e
+    go None e = omega arith
+    go (Some v) e = duration_length s v e
 
 period_length : (o : Option (List ℕ)) (ns : Nodes) → length (read_or [] o) ≤ size ns → length (write_value (period_of o ns)) ≤ 2 * size ns + 1
 unfolding write_value write_period read_or
-period_length none ns h =
+period_length None ns h =
     let a : List ℕ = moment_of (ascii "start") ns in
     let z : List ℕ = moment_of (ascii "end") ns in
     omega (arith, length_both a (47 ∷ z), moment_length (ascii "start") ns, moment_length (ascii "end") ns)
-period_length (some s) ns h =
+period_length (Some s) ns h =
     let a : List ℕ = moment_of (ascii "start") ns in
     let d : List ℕ = read_or [] (read_duration xcal s) in
     omega (arith, length_both a (47 ∷ d), moment_length (ascii "start") ns, duration_or s)
@@ -71,8 +70,8 @@ unfolding read_or write_value
 or_length t s = go (read_value xcal t s) refl
   where
     go : (o : Option Value) → read_value xcal t s ≡ o → length (write_value (read_or (text []) o)) ≤ 2 * length s + 5
-    go none e = omega (arith, escaped_most [])
-    go (some v) e = value_length t s v e
+    go None e = omega (arith, escaped_most [])
+    go (Some v) e = value_length t s v e
 
 of_length : (t : ValueType) (ns : Nodes) → length (write_value (value_of t ns)) ≤ 2 * size ns + 5
 unfolding value_of
@@ -95,11 +94,11 @@ pub type_least : (t : ValueType) → 3 ≤ length (type_name t)
 unfolding schema_compute
 type_least t = leb-true 3 (length (type_name t)) (type_passes (λ u. leb 3 (length (type_name u))) refl t)
 
-element_least : (m : List ℕ) (t : ValueType) → element_type m ≡ some t → 3 ≤ length m
+element_least : (m : List ℕ) (t : ValueType) → element_type m ≡ Some t → 3 ≤ length m
 unfolding element_type pick
 element_least m t h = go (same m (ascii "unknown")) refl (same m (lower m)) h
   where
-    go : (a : Bool) → same m (ascii "unknown") ≡ a → (b : Bool) → pick a (some UNKNOWN) (pick b (type_named (upper m)) none) ≡ some t → 3 ≤ length m
+    go : (a : Bool) → same m (ascii "unknown") ≡ a → (b : Bool) → pick a (Some UNKNOWN) (pick b (type_named (upper m)) None) ≡ Some t → 3 ≤ length m
     go true e b k = omega (arith, ap length (same_true m (ascii "unknown") e))
     go false e true k = omega (arith, ap length (type_named_is (upper m) t k), upper-length m, type_least t)
     go false e false k = none-some k
@@ -116,8 +115,8 @@ typed_length (element p m x kids more) = go (element_type m) refl (typed_length 
   where
     go : (o : Option ValueType) → element_type m ≡ o → weight (map write_value (typed_values more)) ≤ 2 * part typed more →
         weight (map write_value (one_of o kids (typed_values more))) ≤ 2 * (pick (is_read o) (name_bytes m + 2 + size kids) 0 + part typed more)
-    go none e ih = omega (arith, ih)
-    go (some t) e ih = omega (arith, ih, of_length t kids, element_least m t e, name_length m)
+    go None e ih = omega (arith, ih)
+    go (Some t) e ih = omega (arith, ih, of_length t kids, element_least m t e, name_length m)
 
 -- the type of the values, or `unknown`
 pub typed_name : (ns : Nodes) → length (type_name (type_of_all (typed_values ns))) ≤ 7 + part typed ns
@@ -129,5 +128,5 @@ typed_name (element p m x kids more) = go (element_type m) refl (typed_name more
   where
     go : (o : Option ValueType) → element_type m ≡ o → length (type_name (type_of_all (typed_values more))) ≤ 7 + part typed more →
         length (type_name (type_of_all (one_of o kids (typed_values more)))) ≤ 7 + (pick (is_read o) (name_bytes m + 2 + size kids) 0 + part typed more)
-    go none e ih = omega (arith, ih)
-    go (some t) e ih = omega (arith, type_length (type_of (value_of t kids)), element_least m t e, name_length m)
+    go None e ih = omega (arith, ih)
+    go (Some t) e ih = omega (arith, type_length (type_of (value_of t kids)), element_least m t e, name_length m)

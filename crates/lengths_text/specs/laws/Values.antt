@@ -3,9 +3,8 @@
 --     date_kept, date_time_kept      what is kept of a date, and of a date with its time
 --     value_length                   the text of a value of any type
 --     parameter_length               and as a parameter's value
-use Rattle.std.specs.Prelude.{◌≡◌, refl, Bool, true, false, List, [], ◌∷◌, ℕ, suc, ◌+◌, ◌*◌, ◌≤◌, eqb, length}
+use Rattle.std.specs.Prelude.{◌≡◌, refl, Bool, true, false, List, [], ◌∷◌, ℕ, suc, ◌+◌, ◌*◌, ◌≤◌, eqb, length, Option, None, Some, option_map}
 use Rattle.std.proofs.Common.{ap, arith}
-use Rattle.std.proofs.Math.Option.{Option, none, some, map}
 use Rattle.octets.specs.Ascii.{ascii}
 use Rattle.octets.specs.Pick.{pick}
 use Rattle.octets.specs.laws.Pick.{pick_either}
@@ -64,15 +63,15 @@ escaped_least (b ∷ s) = omega (arith, length_both (escape_text b) (write_text 
 
 -- ---- dates and times: XML has marks more
 
-pub date_kept : (s v : List ℕ) → read_date xcal s ≡ some v → length v ≤ length s
+pub date_kept : (s v : List ℕ) → read_date xcal s ≡ Some v → length v ≤ length s
 unfolding write_date
 date_kept s v h = omega (arith, ap length (date_exact xcal s v h), marks_length date_marks v)
 
-pub date_time_kept : (s v : List ℕ) → read_date_time xcal s ≡ some v → length v ≤ length s
+pub date_time_kept : (s v : List ℕ) → read_date_time xcal s ≡ Some v → length v ≤ length s
 unfolding write_date_time
 date_time_kept s v h = omega (arith, ap length (date_time_exact s v h), marks_length date_time_marks v)
 
-time_kept : (s v : List ℕ) → read_time xcal s ≡ some v → length v ≤ length s
+time_kept : (s v : List ℕ) → read_time xcal s ≡ Some v → length v ≤ length s
 unfolding write_time
 time_kept s v h = omega (arith, ap length (time_exact s v h), marks_length time_marks v)
 
@@ -81,11 +80,11 @@ unfolding pick
 offset_marks true v = omega (arith, marks_length minute_marks v)
 offset_marks false v = omega (arith, marks_length second_marks v)
 
-offset_kept : (s v : List ℕ) → read_utc_offset xcal s ≡ some v → length v ≤ length s
+offset_kept : (s v : List ℕ) → read_utc_offset xcal s ≡ Some v → length v ≤ length s
 unfolding write_utc_offset
 offset_kept s v h = omega (arith, ap length (utc_offset_exact xcal s v h), offset_marks (eqb (length v) 5) v)
 
-pub duration_length : (s v : List ℕ) → read_duration xcal s ≡ some v → length v ≤ length s
+pub duration_length : (s v : List ℕ) → read_duration xcal s ≡ Some v → length v ≤ length s
 unfolding read_duration
 duration_length s v h = duration_kept s v h
 
@@ -104,11 +103,11 @@ truth_length b = pick_either (λ (l : List ℕ). length l ≤ 5) b (ascii "TRUE"
 abbrev pub Brief : List ℕ → Value → Type 0
 Brief s v = length (write_value v) ≤ 2 * length s + 5
 
-mapped : {A : Type 0} (s : List ℕ) (g : A → Value) (o : Option A) (v : Value) → ((a : A) → o ≡ some a → Brief s (g a)) → map g o ≡ some v → Brief s v
-mapped s g none v f h = none-some h
-mapped s g (some a) v f h = let q : g a ≡ v = cc in rw (← q) (f a refl)
+mapped : {A : Type 0} (s : List ℕ) (g : A → Value) (o : Option A) (v : Value) → ((a : A) → o ≡ Some a → Brief s (g a)) → option_map g o ≡ Some v → Brief s v
+mapped s g None v f h = none-some h
+mapped s g (Some a) v f h = let q : g a ≡ v = cc in rw (← q) (f a refl)
 
-pub value_length : (t : ValueType) (s : List ℕ) (v : Value) → read_value xcal t s ≡ some v → Brief s v
+pub value_length : (t : ValueType) (s : List ℕ) (v : Value) → read_value xcal t s ≡ Some v → Brief s v
 unfolding read_value write_value write_date write_date_time write_duration write_time write_utc_offset
 value_length BINARY s v = mapped s binary (read_binary xcal s) v (λ a e. omega (arith, ap length (binary_kept xcal s a e), space_length s))
 value_length BOOLEAN s v = mapped s boolean (read_boolean xcal s) v (λ b e. omega (arith, truth_length b))
@@ -120,7 +119,7 @@ value_length FLOAT s v = mapped s float (read_float s) v (λ d e. omega (arith, 
 value_length INTEGER s v = mapped s integer (read_integer s) v (λ w e. omega (arith, integer_length s w e))
 value_length PERIOD s v = λ h. none-some h
 value_length RECUR s v = λ h. none-some h
-value_length TEXT s v = mapped s text (some s) v (λ a e. let q : s ≡ a = cc in rw (← q) (omega (arith, escaped_most s)))
+value_length TEXT s v = mapped s text (Some s) v (λ a e. let q : s ≡ a = cc in rw (← q) (omega (arith, escaped_most s)))
 value_length TIME s v = mapped s time (read_time xcal s) v (λ a e. omega (arith, time_kept s a e))
 value_length URI s v = mapped s uri (read_uri s) v (λ a e. omega (arith, ap length (uri_kept s a e)))
 value_length UTC-OFFSET s v = mapped s utc_offset (read_utc_offset xcal s) v (λ a e. omega (arith, offset_kept s a e))

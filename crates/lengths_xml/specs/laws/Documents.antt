@@ -2,9 +2,7 @@
 --     xml_bound    `rate` bytes for each byte of the text, and 109 for the document around it;   xml_fits: an output that has them is long enough
 --     text_cost    what the lines of a text come to
 --     xml_short    of a text within the limit
-use Rattle.std.specs.Prelude.{◌≡◌, refl, Bool, true, false, List, [], ◌∷◌, map, ℕ, zero, suc, ◌+◌, ◌-◌, ◌*◌, ◌^◌, ◌≤◌, ◌<◌, length}
-use Rattle.std.proofs.Math.Option
-use Rattle.std.proofs.Math.Option.{Option, none, some}
+use Rattle.std.specs.Prelude.{◌≡◌, refl, Bool, true, false, List, [], ◌∷◌, map, ℕ, zero, suc, ◌+◌, ◌-◌, ◌*◌, ◌^◌, ◌≤◌, ◌<◌, length, Option, None, Some, option_map}
 use native.Mathlib.Omega.{arith}
 use Rattle.octets.specs.Ascii.{ascii}
 use Rattle.octets.specs.Pick.{pick}
@@ -104,10 +102,10 @@ parameters_decoded ed (r ∷ rs) =
 line_decoded : (ed : Edition) (l : ContentLine) → length (write_content_line (decoded_line ed l)) ≤ length (write_content_line l)
 line_decoded ed l = omega (arith, line_length l, line_length (decoded_line ed l), parameters_decoded ed l.parameters)
 
-entry_cost : (ed : Edition) (s : List ℕ) (o : Option ContentLine) → content_line s ≡ o → cost (entry_by (Option.map (decoded_line ed) o)) ≤ rate * (length s + 2)
+entry_cost : (ed : Edition) (s : List ℕ) (o : Option ContentLine) → content_line s ≡ o → cost (entry_by (option_map (decoded_line ed) o)) ≤ rate * (length s + 2)
 unfolding entry_by
-entry_cost ed s none e = unfold cost in omega arith
-entry_cost ed s (some l) e = pick_either Fits (same (upper l.name) (ascii "BEGIN")) _ _ begins (pick_either Fits (same (upper l.name) (ascii "END")) end (property (decoded_line ed l)) ends states)
+entry_cost ed s None e = unfold cost in omega arith
+entry_cost ed s (Some l) e = pick_either Fits (same (upper l.name) (ascii "BEGIN")) _ _ begins (pick_either Fits (same (upper l.name) (ascii "END")) end (property (decoded_line ed l)) ends states)
   where
     Fits : Entry → Type 0
     Fits x = cost x ≤ rate * (length s + 2)

@@ -3,9 +3,8 @@
 --     integer_length, integer_some, truth_length, truth_some    a number, a truth value, and what it is read from
 --     written_length    a decimal number has its digits, and a sign, a zero and a point;   float_length, float_some: by what it is read from
 --     Geo, geo_length    a latitude and a longitude
-use Rattle.std.specs.Prelude.{◌≡◌, refl, Bool, true, false, List, [], ◌∷◌, ℕ, suc, ◌+◌, ◌-◌, ◌*◌, ◌^◌, ◌≤◌, ◌<◌, eqb, length}
+use Rattle.std.specs.Prelude.{◌≡◌, refl, Bool, true, false, List, [], ◌∷◌, ℕ, suc, ◌+◌, ◌-◌, ◌*◌, ◌^◌, ◌≤◌, ◌<◌, eqb, length, None, Some}
 use Rattle.std.proofs.Common.{ap, arith, ltb-true}
-use Rattle.std.proofs.Math.Option.{none, some}
 use Rattle.std.proofs.Math.Nat.{pow-succ'}
 use Rattle.octets.specs.Ascii.{ascii}
 use Rattle.octets.specs.Pick.{pick, ◌and◌, ◌or◌}
@@ -71,12 +70,12 @@ whole_length most m s h = omega (arith, signed_length m (digits 9 (value 0 (afte
 pub whole_some : (most : ℕ) (s : List ℕ) → is_number most (after_sign s) ≡ true → 1 ≤ length s
 whole_some most s h = omega (arith, number_some most (after_sign s) h, unsigned_length s)
 
-pub integer_length : (s : List ℕ) (w : Whole) → read_integer s ≡ some w → length (write_integer w) ≤ length s + 1
+pub integer_length : (s : List ℕ) (w : Whole) → read_integer s ≡ Some w → length (write_integer w) ≤ length s + 1
 integer_length s w h =
     let q = provided-some (is_number (most (has_minus s)) (after_sign s)) (integer_of (has_minus s) (value 0 (after_sign s))) w h in
     rw (← q.1) (whole_length (most (has_minus s)) _ s q.0)
 
-pub integer_some : (s : List ℕ) (w : Whole) → read_integer s ≡ some w → 1 ≤ length s
+pub integer_some : (s : List ℕ) (w : Whole) → read_integer s ≡ Some w → 1 ≤ length s
 integer_some s w h = whole_some (most (has_minus s)) s (provided-some (is_number (most (has_minus s)) (after_sign s)) (integer_of (has_minus s) (value 0 (after_sign s))) w h).0
 
 -- ---- truth values
@@ -84,17 +83,17 @@ integer_some s w h = whole_some (most (has_minus s)) s (provided-some (is_number
 pub truth_length : (b : Bool) → length (write_boolean xcal b) ≤ 5
 truth_length b = pick_either (Within 5) b (ascii "true") (ascii "false") (omega arith) (omega arith)
 
-pub truth_some : (s : List ℕ) (b : Bool) → read_boolean ical s ≡ some b → 4 ≤ length s
+pub truth_some : (s : List ℕ) (b : Bool) → read_boolean ical s ≡ Some b → 4 ≤ length s
 unfolding pick
 truth_some s b h = go (same (upper s) (ascii "TRUE")) refl h
   where
-    go : (t : Bool) → same (upper s) (ascii "TRUE") ≡ t → pick t (some true) (provided (same (upper s) (ascii "FALSE")) false) ≡ some b → 4 ≤ length s
+    go : (t : Bool) → same (upper s) (ascii "TRUE") ≡ t → pick t (Some true) (provided (same (upper s) (ascii "FALSE")) false) ≡ Some b → 4 ≤ length s
     go true e k = omega (arith, ap length (same_true (upper s) (ascii "TRUE") e), upper-length s)
     go false e k = omega (arith, ap length (same_true (upper s) (ascii "FALSE") (provided-some (same (upper s) (ascii "FALSE")) false b k).0), upper-length s)
 
 -- ---- decimal numbers
 
-fraction-length : (ps : List (List ℕ)) (a : List ℕ) → fraction ps ≡ some a → length a ≤ weight ps
+fraction-length : (ps : List (List ℕ)) (a : List ℕ) → fraction ps ≡ Some a → length a ≤ weight ps
 unfolding fraction weight
 fraction-length [] a h = let q : [] ≡ a = cc in rw (← q) (omega arith)
 fraction-length (p ∷ ps) a h = rw (← (provided-some (is_digits p and is_empty ps) p a h).1) (omega arith)
@@ -107,20 +106,20 @@ digits_in d = length d.before + length d.after
 abbrev Pointed : ℕ → Decimal → Type 0
 Pointed n d = (1 ≤ digits_in d) × (digits_in d + 1 ≤ n)
 
-pointed_length : (m : Bool) (ps : List (List ℕ)) (d : Decimal) → pointed m ps ≡ some d → Pointed (weight ps) d
+pointed_length : (m : Bool) (ps : List (List ℕ)) (d : Decimal) → pointed m ps ≡ Some d → Pointed (weight ps) d
 unfolding pointed weight pick
 pointed_length m [] d h = none-some h
 pointed_length m (b ∷ ps) d h = go (is_digits b) refl h
   where
-    go : (t : Bool) → is_digits b ≡ t → pick t (and_then (fraction ps) (λ a. some (decimal m b a))) none ≡ some d → Pointed (length b + 1 + weight ps) d
+    go : (t : Bool) → is_digits b ≡ t → pick t (and_then (fraction ps) (λ a. Some (decimal m b a))) None ≡ Some d → Pointed (length b + 1 + weight ps) d
     go true e k =
-        let q = and_then-some (fraction ps) (λ a. some (decimal m b a)) d k in
+        let q = and_then-some (fraction ps) (λ a. Some (decimal m b a)) d k in
         let i : decimal m b q.0 ≡ d = cc q.2 in
         let l : 0 < length b = ltb-true 0 (length b) (and_both _ _ e).0 in
         rw (← i) (omega arith, omega (arith, fraction-length ps q.0 q.1))
     go false e k = none-some k
 
-spelled-length : (s : List ℕ) (d : Decimal) → spelled s ≡ some d → Pointed (suc (length s)) d
+spelled-length : (s : List ℕ) (d : Decimal) → spelled s ≡ Some d → Pointed (suc (length s)) d
 spelled-length s d h =
     let p = pointed_length (has_minus s) (cut_at 46 (after_sign s)) d h in
     (p.0, omega (arith, p.1, cut_weight 46 (after_sign s), unsigned_length s))
@@ -156,16 +155,16 @@ written_length d =
     let b : List ℕ = after_point d.after in
     omega (arith, signed_length d.minus (a ⊕ b), length_both a b, zero_length d.before, point_length d.after)
 
-pub float_length : (s : List ℕ) (d : Decimal) → read_float s ≡ some d → length (write_float d) ≤ length s + 3
+pub float_length : (s : List ℕ) (d : Decimal) → read_float s ≡ Some d → length (write_float d) ≤ length s + 3
 float_length s d h =
-    let q = and_then-some (spelled s) (λ x. some (normal x)) d h in
+    let q = and_then-some (spelled s) (λ x. Some (normal x)) d h in
     let x : Decimal = q.0 in
     let e : normal x ≡ d = cc q.2 in
     rw (← e) (omega (arith, written_length (normal x), leading_length x.before, trailing_length x.after, (spelled-length s x q.1).1))
 
-pub float_some : (s : List ℕ) (d : Decimal) → read_float s ≡ some d → 1 ≤ length s
+pub float_some : (s : List ℕ) (d : Decimal) → read_float s ≡ Some d → 1 ≤ length s
 float_some s d h =
-    let q = and_then-some (spelled s) (λ x. some (normal x)) d h in
+    let q = and_then-some (spelled s) (λ x. Some (normal x)) d h in
     let p = spelled-length s q.0 q.1 in
     omega (arith, p.0, p.1)
 
@@ -178,24 +177,24 @@ pub record Geo (n : ℕ) (v : Value) : Type 0 where
   pub is : v ≡ geo latitude longitude
   pub short : 36 + 5 * (length (write_float latitude) + length (write_float longitude)) ≤ n
 
-coordinate_length : (s : List ℕ) (d : Decimal) → read_float s ≡ some d → 5 * length (write_float d) ≤ rate * length s + 1
+coordinate_length : (s : List ℕ) (d : Decimal) → read_float s ≡ Some d → 5 * length (write_float d) ≤ rate * length s + 1
 coordinate_length s d h = omega (arith, float_length s d h, float_some s d h)
 
-longitude-length : (ps : List (List ℕ)) (d : Decimal) → longitude ps ≡ some d → 5 * length (write_float d) + 18 ≤ rate * weight ps
+longitude-length : (ps : List (List ℕ)) (d : Decimal) → longitude ps ≡ Some d → 5 * length (write_float d) + 18 ≤ rate * weight ps
 unfolding longitude pick weight
 longitude-length [] d h = none-some h
 longitude-length (s ∷ ps) d h = go (is_empty ps) h
   where
-    go : (t : Bool) → pick t (read_float s) none ≡ some d → 5 * length (write_float d) + 18 ≤ rate * (length s + 1 + weight ps)
+    go : (t : Bool) → pick t (read_float s) None ≡ Some d → 5 * length (write_float d) + 18 ≤ rate * (length s + 1 + weight ps)
     go true k = omega (arith, coordinate_length s d k)
     go false k = none-some k
 
-coordinates_length : (ps : List (List ℕ)) (v : Value) → coordinates ps ≡ some v → Geo (rate * weight ps) v
+coordinates_length : (ps : List (List ℕ)) (v : Value) → coordinates ps ≡ Some v → Geo (rate * weight ps) v
 unfolding coordinates weight
 coordinates_length [] v h = none-some h
 coordinates_length (s ∷ ps) v h =
-    let p = and_then-some (read_float s) (λ la. and_then (longitude ps) (λ lo. some (geo la lo))) v h in
-    let q = and_then-some (longitude ps) (λ lo. some (geo p.0 lo)) v p.2 in
+    let p = and_then-some (read_float s) (λ la. and_then (longitude ps) (λ lo. Some (geo la lo))) v h in
+    let q = and_then-some (longitude ps) (λ lo. Some (geo p.0 lo)) v p.2 in
     record {
       latitude = p.0;
       longitude = q.0;
@@ -203,5 +202,5 @@ coordinates_length (s ∷ ps) v h =
       short = omega (arith, coordinate_length s p.0 p.1, longitude-length ps q.0 q.1);
     }
 
-pub geo_length : (s : List ℕ) (v : Value) → read_geo s ≡ some v → Geo (rate * suc (length s)) v
+pub geo_length : (s : List ℕ) (v : Value) → read_geo s ≡ Some v → Geo (rate * suc (length s)) v
 geo_length s v h = let g = coordinates_length (cut_at 59 s) v h in record { latitude = g.latitude; longitude = g.longitude; is = g.is; short = omega (arith, g.short, cut_weight 59 s) }

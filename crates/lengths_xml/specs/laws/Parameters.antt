@@ -4,9 +4,7 @@
 --     wrapped_length       and the element round them
 --     quoted_length        the characters of a value, with its quotes or without
 --     own_bytes            the parameters but VALUE
-use Rattle.std.specs.Prelude.{◌≡◌, refl, Bool, true, false, not, List, [], ◌∷◌, map, ℕ, ◌+◌, ◌*◌, ◌≤◌, length}
-use Rattle.std.proofs.Math.Option
-use Rattle.std.proofs.Math.Option.{Option, none, some}
+use Rattle.std.specs.Prelude.{◌≡◌, refl, Bool, true, false, not, List, [], ◌∷◌, map, ℕ, ◌+◌, ◌*◌, ◌≤◌, length, Option, None, Some, option_map}
 use Rattle.std.proofs.Common.{arith}
 use Rattle.octets.specs.Ascii.{ascii}
 use Rattle.octets.specs.Pick.{pick, ◌and◌, ◌or◌}
@@ -31,21 +29,21 @@ use Rattle.lengths_xml.specs.laws.Pieces.{joined_weight}
 use Rattle.lengths_xml.specs.laws.Values.{Short, kept_length, unknown-length, value_length, each_length}
 use Rattle.lengths_xml.specs.laws.PropertyValues.{word_short}
 
-typed_short : (t : ValueType) (s : List ℕ) (v : Value) → read_typed t s ≡ some v → Short s v
+typed_short : (t : ValueType) (s : List ℕ) (v : Value) → read_typed t s ≡ Some v → Short s v
 unfolding pick
 typed_short t s v h = go (same_type t TEXT) h
   where
-    other : (b : Bool) → pick b (some (unknown s)) (read_value ical t s) ≡ some v → Short s v
+    other : (b : Bool) → pick b (Some (unknown s)) (read_value ical t s) ≡ Some v → Short s v
     other true h = let q : unknown s ≡ v = cc in rw (← q) (unknown-length s s (omega arith))
     other false h = value_length t s v h
 
-    go : (b : Bool) → pick b (some (text s)) (pick (same_type t UNKNOWN) (some (unknown s)) (read_value ical t s)) ≡ some v → Short s v
+    go : (b : Bool) → pick b (Some (text s)) (pick (same_type t UNKNOWN) (Some (unknown s)) (read_value ical t s)) ≡ Some v → Short s v
     go true h = let q : text s ≡ v = cc in rw (← q) (kept_length s s (omega arith))
     go false h = other (same_type t UNKNOWN) h
 
-in_word_short : (o : Option (List (List ℕ))) (t : ValueType) (s : List ℕ) (v : Value) → read_word o t s ≡ some v → Short s v
-in_word_short none t s v h = typed_short t s v h
-in_word_short (some ws) t s v h = word_short ws s v h
+in_word_short : (o : Option (List (List ℕ))) (t : ValueType) (s : List ℕ) (v : Value) → read_word o t s ≡ Some v → Short s v
+in_word_short None t s v h = typed_short t s v h
+in_word_short (Some ws) t s v h = word_short ws s v h
 
 pub quoted_length : (v : ParamValue) → length v.chars ≤ length (write_param_value v)
 unfolding write_param_value pick
@@ -55,15 +53,15 @@ quoted_length v = go v.quoted
     go true = omega (arith, length_both v.chars (34 ∷ []))
     go false = omega arith
 
-param_short : (n : List ℕ) (r : ParamValue) (v : Value) → read_param_value n r ≡ some v → Short (write_param_value r) v
+param_short : (n : List ℕ) (r : ParamValue) (v : Value) → read_param_value n r ≡ Some v → Short (write_param_value r) v
 unfolding read_param_value pick
 param_short n r v h = go (not r.quoted and is_quoted_parameter n) h
   where
-    go : (b : Bool) → pick b none (read_word (parameter_words n) (parameter_type n) r.chars) ≡ some v → Short (write_param_value r) v
+    go : (b : Bool) → pick b None (read_word (parameter_words n) (parameter_type n) r.chars) ≡ Some v → Short (write_param_value r) v
     go true h = none-some h
     go false h = omega (arith, in_word_short (parameter_words n) (parameter_type n) r.chars v h, quoted_length r)
 
-parameter_length : (r : RawParameter) (p : Parameter) → read_parameter r ≡ some p → length (parameter_xml p) ≤ rate * length (write_parameter r)
+parameter_length : (r : RawParameter) (p : Parameter) → read_parameter r ≡ Some p → length (parameter_xml p) ≤ rate * length (write_parameter r)
 unfolding read_parameter parameter_xml write_parameter pick
 parameter_length r p h = go (is_listed_parameter (upper r.name) or is_single r.values) h
   where
@@ -79,15 +77,15 @@ parameter_length r p h = go (is_listed_parameter (upper r.name) or is_single r.v
     Brief : Type 0
     Brief = length (element_of (lower p.name) (values_xml p.values)) ≤ rate * length (59 ∷ (r.name ⊕ 61 ∷ joined_by 44 vs))
 
-    read : (o : Option (List Value)) → read_each (read_param_value n) r.values ≡ o → Option.map named o ≡ some p → Brief
-    read none e k = none-some k
-    read (some xs) e k =
+    read : (o : Option (List Value)) → read_each (read_param_value n) r.values ≡ o → option_map named o ≡ Some p → Brief
+    read None e k = none-some k
+    read (Some xs) e k =
         let q : named xs ≡ p = cc in
         let outer = element_length (lower n) (values_xml xs) in
         let each = each_length (read_param_value n) write_param_value (param_short n) r.values xs e in
         rw (← q) (omega (arith, outer, lower-length n, upper-length r.name, each, joined_weight 44 vs, length_both r.name (61 ∷ joined_by 44 vs)))
 
-    go : (b : Bool) → pick b (Option.map named (read_each (read_param_value n) r.values)) none ≡ some p → Brief
+    go : (b : Bool) → pick b (option_map named (read_each (read_param_value n) r.values)) None ≡ Some p → Brief
     go true h = read (read_each (read_param_value n) r.values) refl h
     go false h = none-some h
 
@@ -95,7 +93,7 @@ parameter_length r p h = go (is_listed_parameter (upper r.name) or is_single r.v
 abbrev pub bytes : List RawParameter → ℕ
 bytes rs = length (joined (map write_parameter rs))
 
-each_parameter : (rs : List RawParameter) (ps : List Parameter) → read_each read_parameter rs ≡ some ps → length (parameters_xml ps) ≤ rate * bytes rs
+each_parameter : (rs : List RawParameter) (ps : List Parameter) → read_each read_parameter rs ≡ Some ps → length (parameters_xml ps) ≤ rate * bytes rs
 unfolding read_each parameters_xml joined
 each_parameter [] ps h = let q : [] ≡ ps = cc in rw (← q) (omega arith)
 each_parameter (r ∷ rs) ps h =
@@ -113,7 +111,7 @@ own_bytes (r ∷ rs) = go (is_value_parameter r) (own_bytes rs)
     go true ih = omega (arith, ih, length_both (write_parameter r) (joined (map write_parameter rs)))
     go false ih = omega (arith, ih, length_both (write_parameter r) (joined (map write_parameter rs)), length_both (write_parameter r) (joined (map write_parameter (own_parameters rs))))
 
-pub parameters_length : (rs : List RawParameter) (ps : List Parameter) → read_parameters rs ≡ some ps → length (parameters_xml ps) ≤ rate * bytes rs
+pub parameters_length : (rs : List RawParameter) (ps : List Parameter) → read_parameters rs ≡ Some ps → length (parameters_xml ps) ≤ rate * bytes rs
 parameters_length rs ps h = omega (arith, each_parameter (own_parameters rs) ps h, own_bytes rs)
 
 pub wrapped_length : (ps : List Parameter) → length (parameters_element ps) ≤ 25 + length (parameters_xml ps)

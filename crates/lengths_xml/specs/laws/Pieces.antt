@@ -3,8 +3,7 @@
 --     cut_weight      pieces that a text is cut into
 --     split_weight    texts that escaped text is split into
 --     joined_weight, joined_within    pieces joined
-use Rattle.std.specs.Prelude.{◌≡◌, refl, Bool, true, false, List, [], ◌∷◌, ℕ, suc, ◌+◌, ◌≤◌, eqb, length}
-use Rattle.std.proofs.Math.Option.{Option, none, some}
+use Rattle.std.specs.Prelude.{◌≡◌, refl, Bool, true, false, List, [], ◌∷◌, ℕ, suc, ◌+◌, ◌≤◌, eqb, length, Option, None, Some}
 use native.Mathlib.Omega.{arith}
 use Rattle.octets.specs.Pick.{pick}
 use Rattle.octets.specs.laws.Pick.{pick_either}
@@ -32,16 +31,16 @@ cut_weight c (b ∷ s) =
 -- ---- escaped text: a sign adds a byte at most
 
 weight_read : Option (List (List ℕ)) → ℕ
-weight_read none = 0
-weight_read (some ps) = weight ps
+weight_read None = 0
+weight_read (Some ps) = weight ps
 
 sign_weight : (g : Sign) (o : Option (List (List ℕ))) (n : ℕ) → weight_read o ≤ suc n → weight_read (with_sign g o) ≤ suc (suc n)
 unfolding weight_read onto_read cons_read
-sign_weight (char b) none n h = omega arith
-sign_weight (char b) (some ps) n h = onto-weight b ps n h
+sign_weight (char b) None n h = omega arith
+sign_weight (char b) (Some ps) n h = onto-weight b ps n h
 sign_weight opening o n h = omega arith
-sign_weight separator none n h = omega arith
-sign_weight separator (some ps) n h = unfold weight in omega arith
+sign_weight separator None n h = omega arith
+sign_weight separator (Some ps) n h = unfold weight in omega arith
 sign_weight fault o n h = omega arith
 
 from_weight : (s : List ℕ) (after : Bool) (c : ℕ) → weight_read (split_from after c s) ≤ suc (length s)
@@ -50,7 +49,7 @@ from_weight [] true c = omega arith
 from_weight [] false c = omega arith
 from_weight (b ∷ s) after c = sign_weight (sign_of after c b) (split_from (opens after b) c s) (length s) (from_weight s (opens after b) c)
 
-pub split_weight : (c : ℕ) (s : List ℕ) (ps : List (List ℕ)) → split_text c s ≡ some ps → weight ps ≤ suc (length s)
+pub split_weight : (c : ℕ) (s : List ℕ) (ps : List (List ℕ)) → split_text c s ≡ Some ps → weight ps ≤ suc (length s)
 unfolding weight_read
 split_weight c s ps h = rw h at (from_weight s false c)
 

@@ -1,8 +1,7 @@
 -- The XML of a property, by the length of its content line with the two bytes that end it.
 --     property_length    the property that a line states
 --     line_length        a content line, by its parts
-use Rattle.std.specs.Prelude.{◌≡◌, refl, List, [], ◌∷◌, map, ℕ, suc, ◌+◌, ◌*◌, ◌≤◌, length}
-use Rattle.std.proofs.Math.Option.{Option, none, some}
+use Rattle.std.specs.Prelude.{◌≡◌, refl, List, [], ◌∷◌, map, ℕ, suc, ◌+◌, ◌*◌, ◌≤◌, length, Option, None, Some}
 use Rattle.std.proofs.Common.{arith}
 use Rattle.octets.specs.Append.{◌⊕◌, joined}
 use Rattle.octets.specs.laws.Append.{length_both}
@@ -25,16 +24,16 @@ unfolding read_or parameters_xml
 parameters_or rs = go (read_parameters rs) refl
   where
     go : (o : Option (List Parameter)) → read_parameters rs ≡ o → length (parameters_xml (read_or [] o)) ≤ rate * bytes rs
-    go none e = omega arith
-    go (some ps) e = parameters_length rs ps e
+    go None e = omega arith
+    go (Some ps) e = parameters_length rs ps e
 
 values_or : (k n : List ℕ) (t : ValueType) (s : List ℕ) → Brief s (read_or [] (read_values k n t s))
 unfolding read_or values_xml
 values_or k n t s = go (read_values k n t s) refl
   where
     go : (o : Option (List Value)) → read_values k n t s ≡ o → Brief s (read_or [] o)
-    go none e = omega arith
-    go (some vs) e = values_length k n t s vs e
+    go None e = omega arith
+    go (Some vs) e = values_length k n t s vs e
 
 pub line_length : (l : ContentLine) → length (write_content_line l) ≡ length l.name + bytes l.parameters + suc (length l.value)
 unfolding write_content_line

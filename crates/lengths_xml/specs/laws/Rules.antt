@@ -6,11 +6,10 @@
 --     part_length     the elements of a part
 --     order_length    parts in the order of distinct names
 --     rule_length     the elements of a rule
-use Rattle.std.specs.Prelude.{◌≡◌, refl, Bool, List, [], ◌∷◌, ℕ, suc, ◌+◌, ◌*◌, ◌≤◌, leb, length}
+use Rattle.std.specs.Prelude.{◌≡◌, refl, Bool, List, [], ◌∷◌, ℕ, suc, ◌+◌, ◌*◌, ◌≤◌, leb, length, Option, None, Some}
 use Rattle.std.proofs.Common.{sym, ap, ◌∙◌, leb-true}
 use Rattle.std.proofs.Math.Bool.{true, false}
 use Rattle.std.proofs.lemmas.Bool.{false≢true}
-use Rattle.std.proofs.Math.Option.{Option, none, some}
 use native.Mathlib.Omega.{arith}
 use Rattle.octets.specs.Pick.{pick, ◌and◌, ◌or◌}
 use Rattle.octets.specs.laws.Pick.{pick_either, pick_second, and_both}
@@ -66,25 +65,25 @@ past-length p (b ∷ s) = go (p b) (past-length p s)
     go true ih = omega arith
     go false ih = omega (arith, ih)
 
-enddate_kept : (s m : List ℕ) → read_enddate ical s ≡ some m → length m ≡ length s
+enddate_kept : (s m : List ℕ) → read_enddate ical s ≡ Some m → length m ≡ length s
 enddate_kept s m h = go (read_date ical s) refl h
   where
-    go : (o : Option (List ℕ)) → read_date ical s ≡ o → or_other o (read_date_time ical s) ≡ some m → length m ≡ length s
-    go none e k = date_time_kept s m k
-    go (some d) e k = let q : d ≡ m = cc in rw (← q) (date_kept s d e)
+    go : (o : Option (List ℕ)) → read_date ical s ≡ o → or_other o (read_date_time ical s) ≡ Some m → length m ≡ length s
+    go None e k = date_time_kept s m k
+    go (Some d) e k = let q : d ≡ m = cc in rw (← q) (date_kept s d e)
 
-enddate_some : (s m : List ℕ) → read_enddate ical s ≡ some m → 8 ≤ length s
+enddate_some : (s m : List ℕ) → read_enddate ical s ≡ Some m → 8 ≤ length s
 enddate_some s m h = go (read_date ical s) refl h
   where
-    go : (o : Option (List ℕ)) → read_date ical s ≡ o → or_other o (read_date_time ical s) ≡ some m → 8 ≤ length s
-    go none e k = omega (arith, date_time_some s m k)
-    go (some d) e k = date_some s d e
+    go : (o : Option (List ℕ)) → read_date ical s ≡ o → or_other o (read_date_time ical s) ≡ Some m → 8 ≤ length s
+    go None e k = omega (arith, date_time_some s m k)
+    go (Some d) e k = date_some s d e
 
 enddate_written : (m : List ℕ) → length (write_item xcal (moment m)) ≤ length m + 4
 enddate_written m = pick_either (λ (l : List ℕ). length l ≤ length m + 4) (is_date m) (write_date xcal m) (write_date_time xcal m) (date_written m) (date_time_written m)
 
 -- one of some words, of which none is empty
-word_length : (ws : List (List ℕ)) (s w : List ℕ) → every filled ws ≡ true → read_word ical ws s ≡ some w → (1 ≤ length w) × (length w ≡ length s)
+word_length : (ws : List (List ℕ)) (s w : List ℕ) → every filled ws ≡ true → read_word ical ws s ≡ Some w → (1 ≤ length w) × (length w ≡ length s)
 word_length ws s w f h =
     let q = provided-some (is_one_of (upper s) ws) (upper s) w h in
     let one : 1 ≤ length (upper s) = leb-true 1 (length (upper s)) (word_passes filled ws (upper s) f q.0) in
@@ -97,36 +96,36 @@ Counted s w = (1 ≤ length s) × (length (write_whole w) ≤ length s + 1)
 plain_counted : (most : ℕ) (s : List ℕ) → is_number most s ≡ true → Counted s (whole_number false (value 0 s))
 plain_counted most s h = (number_some most s h, omega (arith, signed_length false (digits 9 (value 0 s)), numeral_length most s h))
 
-pub counting_read : (s : List ℕ) (w : Whole) → read_counting s ≡ some w → Counted s w
+pub counting_read : (s : List ℕ) (w : Whole) → read_counting s ≡ Some w → Counted s w
 counting_read s w h =
     let q = provided-some (is_numeral 1 2147483647 s) (whole_number false (value 0 s)) w h in
     rw (← q.1) (plain_counted 2147483647 s (and_both _ _ q.0).0)
 
-pub unsigned_read : (d lo hi : ℕ) (s : List ℕ) (w : Whole) → read_unsigned d lo hi s ≡ some w → Counted s w
+pub unsigned_read : (d lo hi : ℕ) (s : List ℕ) (w : Whole) → read_unsigned d lo hi s ≡ Some w → Counted s w
 unsigned_read d lo hi s w h =
     let q = provided-some (is_short d s and is_numeral lo hi s) (whole_number false (value 0 s)) w h in
     rw (← q.1) (plain_counted hi s (and_both _ _ (and_both _ _ q.0).1).0)
 
-pub signed_read : (d hi : ℕ) (s : List ℕ) (w : Whole) → read_signed d hi s ≡ some w → Counted s w
+pub signed_read : (d hi : ℕ) (s : List ℕ) (w : Whole) → read_signed d hi s ≡ Some w → Counted s w
 signed_read d hi s w h =
     let q = provided-some (is_short d (after_sign s) and is_numeral 1 hi (after_sign s)) (whole_number (has_minus s) (value 0 (after_sign s))) w h in
     let n = (and_both _ _ (and_both _ _ q.0).1).0 in
     rw (← q.1) (whole_some hi s n, whole_length hi (has_minus s) s n)
 
-pub ordinal_read : (s : List ℕ) (o : Option Whole) → read_ordinal s ≡ some o → length (write_ordinal o) ≤ length s + 1
-ordinal_read [] o h = let q : none ≡ o = cc in rw (← q) (omega arith)
+pub ordinal_read : (s : List ℕ) (o : Option Whole) → read_ordinal s ≡ Some o → length (write_ordinal o) ≤ length s + 1
+ordinal_read [] o h = let q : None ≡ o = cc in rw (← q) (omega arith)
 ordinal_read (b ∷ s) o h =
-    let q = and_then-some (read_signed 2 53 (b ∷ s)) (λ w. some (some w)) o h in
-    let e : some q.0 ≡ o = cc q.2 in
+    let q = and_then-some (read_signed 2 53 (b ∷ s)) (λ w. Some (Some w)) o h in
+    let e : Some q.0 ≡ o = cc q.2 in
     rw (← e) (signed_read 2 53 (b ∷ s) q.0 q.1).1
 
 -- an item in its element, whose name has ten letters at most, with every byte escaped
 abbrev Paid : List ℕ → RuleItem → Type 0
 Paid s i = 25 + 5 * length (write_item xcal i) ≤ rate * (length s + 1)
 
-number_length : (o : Option Whole) (s : List ℕ) (i : RuleItem) → ((w : Whole) → o ≡ some w → Counted s w) → and_then o (λ w. some (number w)) ≡ some i → Paid s i
+number_length : (o : Option Whole) (s : List ℕ) (i : RuleItem) → ((w : Whole) → o ≡ Some w → Counted s w) → and_then o (λ w. Some (number w)) ≡ Some i → Paid s i
 number_length o s i f h =
-    let q = and_then-some o (λ w. some (number w)) i h in
+    let q = and_then-some o (λ w. Some (number w)) i h in
     let e : number q.0 ≡ i = cc q.2 in
     let c = f q.0 q.1 in
     rw (← e) (omega (arith, c.0, c.1))
@@ -144,23 +143,23 @@ filled-weekdays : every filled weekdays ≡ true
 unfolding octets_compute
 filled-weekdays = refl
 
-form_length : (k : ItemForm) (s : List ℕ) (i : RuleItem) → spelt k ≡ true → read_form ical k s ≡ some i → Paid s i
+form_length : (k : ItemForm) (s : List ℕ) (i : RuleItem) → spelt k ≡ true → read_form ical k s ≡ Some i → Paid s i
 unfolding spelt
 form_length (word_of ws) s i f h =
-    let q = and_then-some (read_word ical ws s) (λ w. some (word w)) i h in
+    let q = and_then-some (read_word ical ws s) (λ w. Some (word w)) i h in
     let e : word q.0 ≡ i = cc q.2 in
     let l = word_length ws s q.0 f q.1 in
     rw (← e) (omega (arith, l.0, l.1))
 form_length enddate s i f h =
-    let q = and_then-some (read_enddate ical s) (λ m. some (moment m)) i h in
+    let q = and_then-some (read_enddate ical s) (λ m. Some (moment m)) i h in
     let e : moment q.0 ≡ i = cc q.2 in
     rw (← e) (omega (arith, enddate_kept s q.0 q.1, enddate_written q.0, enddate_some s q.0 q.1))
 form_length counting s i f h = number_length (read_counting s) s i (counting_read s) h
 form_length (unsigned d lo hi) s i f h = number_length (read_unsigned d lo hi s) s i (unsigned_read d lo hi s) h
 form_length (signed d hi) s i f h = number_length (read_signed d hi s) s i (signed_read d hi s) h
 form_length weekdaynum s i f h =
-    let p = and_then-some (read_ordinal (up_to is_alpha s)) (λ o. and_then (read_word ical weekdays (from_on is_alpha s)) (λ d. some (weekday o d))) i h in
-    let q = and_then-some (read_word ical weekdays (from_on is_alpha s)) (λ d. some (weekday p.0 d)) i p.2 in
+    let p = and_then-some (read_ordinal (up_to is_alpha s)) (λ o. and_then (read_word ical weekdays (from_on is_alpha s)) (λ d. Some (weekday o d))) i h in
+    let q = and_then-some (read_word ical weekdays (from_on is_alpha s)) (λ d. Some (weekday p.0 d)) i p.2 in
     let e : weekday p.0 q.0 ≡ i = cc q.2 in
     let l = word_length weekdays (from_on is_alpha s) q.0 filled-weekdays q.1 in
     rw (← e) (omega (arith, length_both (write_ordinal p.0) q.0, ordinal_read (up_to is_alpha s) p.0 p.1, l.0, l.1, split_length is_alpha s))
@@ -180,7 +179,7 @@ record Good (n : List ℕ) (r : Part) : Type 0 where
   short : length n ≤ 10
   words : spelt r.form ≡ true
 
-part_good : (n : List ℕ) (r : Part) → part_of n ≡ some r → Good n r
+part_good : (n : List ℕ) (r : Part) → part_of n ≡ Some r → Good n r
 unfolding good_part
 part_good n r h =
     let p = and_both _ _ (row_passes (λ (x : Part). x.name) n good_part part_table r good_parts h) in
@@ -188,13 +187,13 @@ part_good n r h =
     let e = row_named (λ (x : Part). x.name) n part_table r h in
     record { long = rw (← e) (leb-true _ _ p.0); short = rw (← e) (leb-true _ _ q.0); words = q.1 }
 
-pub item_length : (n s : List ℕ) (i : RuleItem) → read_item ical n s ≡ some i → length (text_element (lower n) (write_item xcal i)) ≤ rate * (length s + 1)
+pub item_length : (n s : List ℕ) (i : RuleItem) → read_item ical n s ≡ Some i → length (text_element (lower n) (write_item xcal i)) ≤ rate * (length s + 1)
 item_length n s i h =
     let q = and_then-some (part_of n) (λ r. read_form ical r.form s) i h in
     let g = part_good n q.0 q.1 in
     omega (arith, g.short, lower-length n, form_length q.0.form s i g.words q.2, text_element_length (lower n) (write_item xcal i))
 
-items_length : (n : List ℕ) (l : List (List ℕ)) (is : List RuleItem) → read_each (read_item ical n) l ≡ some is → length (items_xml (lower n) is) ≤ rate * weight l
+items_length : (n : List ℕ) (l : List (List ℕ)) (is : List RuleItem) → read_each (read_item ical n) l ≡ Some is → length (items_xml (lower n) is) ≤ rate * weight l
 unfolding read_each items_xml weight
 items_length n [] is h = let q : [] ≡ is = cc in rw (← q) (omega arith)
 items_length n (s ∷ l) is h =
@@ -204,7 +203,7 @@ items_length n (s ∷ l) is h =
     rw (← f.2) (omega (arith, length_both x (items_xml (lower n) f.0), item_length n s e.0 e.1, items_length n l f.0 f.1))
 
 -- where an item is read, the part has its name
-items_named : (n : List ℕ) (l : List (List ℕ)) (is : List RuleItem) → is_empty l ≡ false → read_each (read_item ical n) l ≡ some is → 4 ≤ length n
+items_named : (n : List ℕ) (l : List (List ℕ)) (is : List RuleItem) → is_empty l ≡ false → read_each (read_item ical n) l ≡ Some is → 4 ≤ length n
 unfolding read_each
 items_named n [] is f h = absurd (false≢true (sym f))
 items_named n (s ∷ l) is f h =
@@ -220,18 +219,18 @@ unfolding weight
 of_weight n v = pick_either (λ (l : List (List ℕ)). weight l ≤ suc (length v)) (is_list_part n) (cut_at 44 v) (v ∷ []) (cut_weight 44 v) (omega arith)
 
 -- with the element round the rule
-pub part_length : (s : List ℕ) (p : RulePart) → read_part s ≡ some p → 15 + length (items_xml (lower p.part) p.items) ≤ rate * (length s + 1)
+pub part_length : (s : List ℕ) (p : RulePart) → read_part s ≡ Some p → 15 + length (items_xml (lower p.part) p.items) ≤ rate * (length s + 1)
 part_length s p h =
     let n : List ℕ = upper (up_to is_equals s) in
     let v : List ℕ = past is_equals s in
-    let q = and_then-some (read_each (read_item ical n) (items_of n v)) (λ is. some (rule_part n is)) p h in
+    let q = and_then-some (read_each (read_item ical n) (items_of n v)) (λ is. Some (rule_part n is)) p h in
     let e : rule_part n q.0 ≡ p = cc q.2 in
     let named = items_named n (items_of n v) q.0 (of_some n v) q.1 in
     rw (← e) (omega (arith, items_length n (items_of n v) q.0 q.1, of_weight n v, named, upper-length (up_to is_equals s), past-length is_equals s))
 
 -- ---- parts as they stand
 
-parts_length : (l : List (List ℕ)) (ps : List RulePart) → read_each read_part l ≡ some ps → 15 * length l + length (parts_xml ps) ≤ rate * weight l
+parts_length : (l : List (List ℕ)) (ps : List RulePart) → read_each read_part l ≡ Some ps → 15 * length l + length (parts_xml ps) ≤ rate * weight l
 unfolding read_each parts_xml weight
 parts_length [] ps h = let q : [] ≡ ps = cc in rw (← q) (omega arith)
 parts_length (s ∷ l) ps h =
@@ -284,7 +283,7 @@ with_length n (x ∷ ps) l = go (same n x.part) (same x.part n) (same_either n x
     here = items_xml (lower x.part) x.items
 
     go : (a b : Bool) → a ≡ b → length (parts_xml (with_part (part_named n ps) l)) ≤ chosen (named n) ps + length (parts_xml l) →
-        length (parts_xml (with_part (pick a (some x) (part_named n ps)) l)) ≤ pick b (length here) 0 + chosen (named n) ps + length (parts_xml l)
+        length (parts_xml (with_part (pick a (Some x) (part_named n ps)) l)) ≤ pick b (length here) 0 + chosen (named n) ps + length (parts_xml l)
     go true true e ih = unfold parts_xml in omega (arith, length_both here (parts_xml l))
     go true false e ih = absurd (false≢true (sym e))
     go false true e ih = absurd (false≢true e)
@@ -308,7 +307,7 @@ some_length : (l : List (List ℕ)) → is_empty l ≡ false → 1 ≤ length l
 some_length [] h = absurd (false≢true (sym h))
 some_length (p ∷ l) h = omega arith
 
-pub rule_length : (s : List ℕ) (ps : List RulePart) → read_rule s ≡ some ps → 15 + length (parts_xml ps) ≤ rate * (length s + 1)
+pub rule_length : (s : List ℕ) (ps : List RulePart) → read_rule s ≡ Some ps → 15 + length (parts_xml ps) ≤ rate * (length s + 1)
 rule_length s ps h =
     let q = and_then-some (read_each read_part (cut_at 59 s)) ruled ps h in
     let e = provided-some _ (in_order part_names q.0) ps q.2 in

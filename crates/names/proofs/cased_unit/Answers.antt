@@ -1,5 +1,4 @@
 -- `names::cased_unit` meets its contract.
-use borrow.Author.Rules.{rules}
 use Rattle.names.proofs.cased_unit.Goals as goal
 
 pub returns-in-Kept : goal.returns-in-Kept

@@ -1,11 +1,11 @@
 -- `names::find_cased` meets its contract.
 use Prim.Native.Nat.{◌-◌}
 use lib.ListN.{length}
-use Rattle.names.specs.laws.Matching.{Seeking, seeking}
+use Rattle.names.specs.laws.Matching.{Seeking}
 use Rattle.names.proofs.find_cased.Given as goal
 
 abbrev pub invariant-loop-i : goal.invariant-loop-i
-invariant-loop-i l = Seeking l.k l.mode l.s l.at l.table l.name l.c l.ok l.i
+invariant-loop-i l = Seeking l.k l.mode l.s l.at l.table l.name l.word l.i
 
 abbrev pub decreases-loop-i : goal.decreases-loop-i
 decreases-loop-i l = length l.table - l.i

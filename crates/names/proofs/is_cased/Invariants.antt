@@ -1,8 +1,7 @@
 -- `names::is_cased` meets its contract.
-use native.Mathlib.Omega.{arith}
 use Prim.Native.Nat.{◌-◌}
 use lib.ListN.{length}
-use Rattle.names.specs.laws.Runs.{Comparing, comparing, comparing_stop}
+use Rattle.names.specs.laws.Runs.{Comparing}
 use Rattle.names.proofs.is_cased.Given as goal
 
 abbrev pub invariant-loop-i : goal.invariant-loop-i

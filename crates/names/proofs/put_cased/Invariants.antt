@@ -1,10 +1,7 @@
 -- `names::put_cased` meets its contract.
-use native.Mathlib.Omega.{arith}
-use Rattle.names.specs.laws.Case.{cased_small}
-use Rattle.source.specs.laws.Facts.{byte_small}
 use Prim.Native.Nat.{◌*◌, ◌-◌}
 use lib.ListN.{length}
-use Rattle.names.specs.laws.Runs.{Copying, copying, copying_more}
+use Rattle.names.specs.laws.Runs.{Copying}
 use Rattle.names.proofs.put_cased.Given as goal
 
 abbrev pub invariant-loop-k : goal.invariant-loop-k

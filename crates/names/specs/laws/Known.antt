@@ -2,13 +2,12 @@
 --     word_at        a word that is there is the word at its place
 --     by_place       what a function says of a word is what stands in the table of what it says of each known word, and d of all others
 --     unknown_word, unknown_list, unknown_row      of a word that is not known: it is none of the known words, in no list of them, in no table of rows that they name
-use Rattle.std.specs.Prelude.{◌≡◌, Bool}
+use Rattle.std.specs.Prelude.{◌≡◌, Bool, None}
 use Rattle.std.proofs.Math.Path.{refl, ap}
 use Rattle.std.proofs.Common.{sym, ◌∙◌, arith}
 use Rattle.std.proofs.Math.Bool.{true, false}
 use Rattle.std.proofs.lemmas.Bool.{false≢true}
 use mathlib.Core.List.{List, [], ◌∷◌, map}
-use Rattle.std.proofs.Math.Option.{none}
 use Prim.Native.Nat.{ℕ, suc, ◌≤◌, ◌<◌}
 use Rattle.std.proofs.Math.ListN.{length, get_or}
 use Rattle.octets.specs.Pick.{pick, ◌or◌}
@@ -70,7 +69,7 @@ module _ (w : List ℕ) (ws : List (List ℕ)) (h : length ws ≤ place_of w ws)
       let q = and_both (is_one_of x ws) (every (λ x. is_one_of x ws) l) e in
       rw (unknown_word w ws x h q.0) (unknown_list l q.1)
 
-  pub unknown_row : {A : Type 0} (name : A → List ℕ) (rows : List A) → every (λ r. is_one_of (name r) ws) rows ≡ true → row_of name w rows ≡ none
+  pub unknown_row : {A : Type 0} (name : A → List ℕ) (rows : List A) → every (λ r. is_one_of (name r) ws) rows ≡ true → row_of name w rows ≡ None
   unfolding row_of every pick
   unknown_row name [] e = refl
   unknown_row name (r ∷ rows) e =

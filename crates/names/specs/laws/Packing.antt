@@ -1,6 +1,6 @@
 -- Laws of what specs/Packing.antt defines.
 --     by_packs         what is found by a word's number is its place;   looking, finding: rules for a function of rows, of groups
---     Taking           the loops that make a number, with their rules: `taking` over any cursor, `taking_bytes` over bytes as they stand
+--     Taking           the loops that make a number, with the rules `taking_bytes` over bytes as they stand
 use Rattle.std.specs.Prelude.{◌≡◌, Bool, ◌&&◌, ℕ, ◌+◌, ◌*◌, ◌/◌, ◌%◌, ◌^◌, ◌≤◌, ◌<◌, ltb, length, get_or}
 use Rattle.std.proofs.Math.Path.{refl, sym}
 use Rattle.std.proofs.Common.{ap, ◌∙◌, arith, rules}
@@ -213,8 +213,6 @@ module _ {m : ℕ} {s : List ℕ} {c₀ h l c : ℕ} {n : Step} (t : Taking m s 
   pub taking_end : n.u ≡ 256 → Packs (upper (rest m s c₀)) h l
   unfolding high_from low_from
   taking_end e = record { high = sym (t.high ∙ rw (rest_end q e, cased_none Capital)); low = sym (t.low ∙ rw (rest_end q e, cased_none Capital)) }
-
-pub ruleset taking = (taking_start, taking_more, taking_end, rules)
 
 module _ {s : List ℕ} {c₀ h l c : ℕ} (t : Taking 0 s c₀ h l c) where
   pub taking_bytes_more : {u v x y : ℕ} → c < length s → (u ≡ get_or s c 0) × (u < 256) → v ≡ upper_byte u → (x ≡ grow_high h l v) × (y ≡ grow_low h l v) → Taking 0 s c₀ x y (c + 1)

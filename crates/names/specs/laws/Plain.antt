@@ -15,7 +15,7 @@ use Rattle.octets.specs.laws.Scan.{drop_next}
 use Rattle.octets.specs.Words.{same}
 use Rattle.sink.specs.Sink.{Put}
 use Rattle.sink.specs.laws.Sink.{todo_done}
-use Rattle.source.specs.Source.{rest, Reads}
+use Rattle.source.specs.Source.{rest}
 use Rattle.source.specs.laws.Facts.{plain_byte}
 use Rattle.names.specs.Case.{cased, cased_byte}
 use Rattle.names.specs.laws.Case.{cased_none, cased_more}

@@ -114,11 +114,8 @@ module _ {k : Case} {m : ℕ} {s : List ℕ} {c₀ : ℕ} {w : List ℕ} {c i : 
     unfolding ◌and◌
     comparing_stop g = sym (step ∙ rw (ne_eqb v t g))
 
-  pub comparing_end : {r : Bool} → length w ≤ i → r ≡ (true and is_empty (rest m s c)) → r ≡ same (cased k (rest m s c₀)) w
-  unfolding ◌and◌
+  pub comparing_end : {r : Bool} → length w ≤ i → r ≡ is_empty (rest m s c) → r ≡ same (cased k (rest m s c₀)) w
   comparing_end h e = e ∙ sym (q.left ∙ rw (drop_of_length-le w h) (same_empty k (rest m s c)))
-
-pub ruleset comparing = (comparing_start, comparing_more, comparing_stop, comparing_end, rules)
 
 -- ---- a word that is written: what stands from c on is left to write
 

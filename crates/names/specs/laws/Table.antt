@@ -2,12 +2,11 @@
 --     by_table         a lookup in a table whose names are known
 --     place_within, one_of_place      the place of a word that is there
 --     row_place, row_or, row_then     the row of that name is the row at the name's place
-use Rattle.std.specs.Prelude.{◌≡◌, Bool, ℕ, suc, ◌≤◌, ltb, length}
+use Rattle.std.specs.Prelude.{◌≡◌, Bool, ℕ, suc, ◌≤◌, ltb, length, Option, None, Some}
 use Rattle.std.proofs.Math.Path.{refl}
 use Rattle.std.proofs.Common.{sym, ap, ◌∙◌, arith, lt-ltb, le-ltb, ltb-true, ltb-false}
 use Rattle.std.proofs.Math.Bool.{true, false}
 use mathlib.Core.List.{List, [], ◌∷◌, map}
-use Rattle.std.proofs.Math.Option.{Option, none, some}
 use Rattle.std.proofs.Math.ListN.{get_or}
 use Rattle.octets.specs.Pick.{pick, ◌or◌}
 use Rattle.octets.specs.Words.{same, is_one_of, row_of}
@@ -50,7 +49,7 @@ module _ {A : Type 0} (name : A → List ℕ) (w : List ℕ) where
   row_place (r ∷ rows) = go (same w (name r)) (row_place rows)
     where
       go : (t : Bool) → row_of name w rows ≡ nth rows (place_of w (map name rows)) →
-          pick t (some r) (row_of name w rows) ≡ nth (r ∷ rows) (pick t 0 (suc (place_of w (map name rows))))
+          pick t (Some r) (row_of name w rows) ≡ nth (r ∷ rows) (pick t 0 (suc (place_of w (map name rows))))
       go true ih = refl
       go false ih = ih
 
@@ -62,18 +61,18 @@ module _ {A : Type 0} (name : A → List ℕ) (w : List ℕ) where
   row_or field d (r ∷ rows) = go (same w (name r)) (row_or field d rows)
     where
       go : (t : Bool) → field (read_or d (row_of name w rows)) ≡ get_or (map field rows) (place_of w (map name rows)) (field d) →
-          field (read_or d (pick t (some r) (row_of name w rows))) ≡ get_or (field r ∷ map field rows) (pick t 0 (suc (place_of w (map name rows)))) (field d)
+          field (read_or d (pick t (Some r) (row_of name w rows))) ≡ get_or (field r ∷ map field rows) (pick t 0 (suc (place_of w (map name rows)))) (field d)
       go true ih = refl
       go false ih = ih
 
   -- what is read from the row, by a list of what is read from each
   pub row_then : {B : Type 0} (read : A → Option B) (rows : List A) →
-      and_then (row_of name w rows) read ≡ get_or (map read rows) (place_of w (map name rows)) none
+      and_then (row_of name w rows) read ≡ get_or (map read rows) (place_of w (map name rows)) None
   unfolding row_of place_of pick and_then
   row_then read [] = refl
   row_then read (r ∷ rows) = go (same w (name r)) (row_then read rows)
     where
-      go : (t : Bool) → and_then (row_of name w rows) read ≡ get_or (map read rows) (place_of w (map name rows)) none →
-          and_then (pick t (some r) (row_of name w rows)) read ≡ get_or (read r ∷ map read rows) (pick t 0 (suc (place_of w (map name rows)))) none
+      go : (t : Bool) → and_then (row_of name w rows) read ≡ get_or (map read rows) (place_of w (map name rows)) None →
+          and_then (pick t (Some r) (row_of name w rows)) read ≡ get_or (read r ∷ map read rows) (pick t 0 (suc (place_of w (map name rows)))) None
       go true ih = refl
       go false ih = ih

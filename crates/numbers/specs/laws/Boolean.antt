@@ -1,6 +1,5 @@
 -- Laws of what specs/Boolean.antt defines.
-use Rattle.std.specs.Prelude.{◌≡◌, refl, Bool, true, false}
-use Rattle.std.proofs.Math.Option.{some}
+use Rattle.std.specs.Prelude.{◌≡◌, refl, Bool, true, false, Some}
 use Rattle.octets.specs.Pick.{pick, ◌and◌, ◌or◌}
 use Rattle.octets.specs.Scan.{all_of}
 use Rattle.octets.specs.Class.{upper, is_visible}
@@ -8,7 +7,7 @@ use Rattle.octets.specs.Words.{same, is_one_of}
 use Rattle.calendar.specs.Calendar.{Format, ical, xcal}
 use Rattle.numbers.specs.Boolean.{read_boolean, write_boolean}
 
-pub boolean_read_back : (f : Format) (b : Bool) → read_boolean f (write_boolean f b) ≡ some b
+pub boolean_read_back : (f : Format) (b : Bool) → read_boolean f (write_boolean f b) ≡ Some b
 unfolding pick ◌and◌ ◌or◌ upper same is_one_of
 boolean_read_back ical true = refl
 boolean_read_back ical false = refl

@@ -4,8 +4,7 @@
 --     Digits                  a decimal has digits on both sides of its point;   spelled_digits, normal_digits: what is spelled has, and a normal form
 --     normal_is_normal        digits have a normal form;   normal_fixed: a normal form is its own
 --     float_all               a test that digits, the minus and the point pass
-use Rattle.std.specs.Prelude.{◌≡◌, refl, Bool, true, false, not, List, [], ◌∷◌, ℕ, suc, eqb, length}
-use Rattle.std.proofs.Math.Option.{none, some}
+use Rattle.std.specs.Prelude.{◌≡◌, refl, Bool, true, false, not, List, [], ◌∷◌, ℕ, suc, eqb, length, None, Some}
 use Rattle.std.proofs.Common.{arith, lt-ltb, ltb-true}
 use Rattle.std.proofs.lemmas.Bool.{not-true}
 use Rattle.octets.specs.Pick.{pick, ◌and◌}
@@ -47,7 +46,7 @@ cut_written b [] h k = cut_joined 46 (or_zero b) [] (rw (no_point (or_zero b) (a
 cut_written b (x ∷ a) h k =
     rw (append_none (x ∷ a)) at (cut_joined 46 (or_zero b) ((x ∷ a) ∷ []) (rw (no_point (or_zero b) (and_both _ _ (zero_digits b h)).1, no_point (x ∷ a) k)))
 
-fraction_written : (a : List ℕ) → all_of is_digit a ≡ true → fraction (pieces a) ≡ some a
+fraction_written : (a : List ℕ) → all_of is_digit a ≡ true → fraction (pieces a) ≡ Some a
 unfolding fraction pieces pick ◌and◌
 fraction_written [] h = refl
 fraction_written (x ∷ a) h = rw (lt-ltb 0 (suc (length a)) (omega arith), h)
@@ -71,7 +70,7 @@ no_trailing_zero (b ∷ c ∷ s) h = rw (no_trailing_zero (c ∷ s) h)
 written_leads : (b a : List ℕ) → all_of is_digit b ≡ true → leads_in_digit (or_zero b ⊕ after_point a) ≡ true
 written_leads b a h = let p = and_both _ _ (zero_digits b h) in lead_append (or_zero b) (after_point a) (digits_lead (or_zero b) (ltb-true 0 (length (or_zero b)) p.0) p.1)
 
-spelled_written : (m : Bool) (b a : List ℕ) → all_of is_digit b ≡ true → all_of is_digit a ≡ true → spelled (write_float (decimal m b a)) ≡ some (decimal m (or_zero b) a)
+spelled_written : (m : Bool) (b a : List ℕ) → all_of is_digit b ≡ true → all_of is_digit a ≡ true → spelled (write_float (decimal m b a)) ≡ Some (decimal m (or_zero b) a)
 unfolding pointed pick and_then
 spelled_written m b a h k =
     rw (
@@ -108,7 +107,7 @@ keeps_sign true true h = h
 keeps_sign true false h = refl
 keeps_sign false m h = refl
 
-pub float_read_back : (d : Decimal) → is_normal d ≡ true → read_float (write_float d) ≡ some d
+pub float_read_back : (d : Decimal) → is_normal d ≡ true → read_float (write_float d) ≡ Some d
 unfolding and_then
 float_read_back d h =
     let n = normal_parts d h in
@@ -122,7 +121,7 @@ float_read_back d h =
 
 -- ---- what is read is in normal form
 
-fraction_digits : (ps : List (List ℕ)) (a : List ℕ) → fraction ps ≡ some a → all_of is_digit a ≡ true
+fraction_digits : (ps : List (List ℕ)) (a : List ℕ) → fraction ps ≡ Some a → all_of is_digit a ≡ true
 unfolding fraction all_of
 fraction_digits [] a h = let e : a ≡ [] = cc in rw e
 fraction_digits (p ∷ ps) a h = let q = provided-some _ p a h in rw (← q.1) (and_both _ _ (and_both _ _ q.0).0).1
@@ -132,19 +131,19 @@ pub record Digits (d : Decimal) : Type 0 where
   pub before_digits : all_of is_digit d.before ≡ true
   pub after_digits : all_of is_digit d.after ≡ true
 
-pointed_digits : (m : Bool) (ps : List (List ℕ)) (d : Decimal) → pointed m ps ≡ some d → Digits d
+pointed_digits : (m : Bool) (ps : List (List ℕ)) (d : Decimal) → pointed m ps ≡ Some d → Digits d
 unfolding pointed pick
 pointed_digits m [] d h = none-some h
 pointed_digits m (b ∷ ps) d h = go (is_digits b) refl h
   where
-    go : (t : Bool) → is_digits b ≡ t → pick t (and_then (fraction ps) (λ a. some (decimal m b a))) none ≡ some d → Digits d
+    go : (t : Bool) → is_digits b ≡ t → pick t (and_then (fraction ps) (λ a. Some (decimal m b a))) None ≡ Some d → Digits d
     go false e k = none-some k
     go true e k =
-        let p = and_then-some (fraction ps) (λ a. some (decimal m b a)) d k in
+        let p = and_then-some (fraction ps) (λ a. Some (decimal m b a)) d k in
         let q : decimal m b p.0 ≡ d = cc p.2 in
         rw (← q) (record { before_digits = (and_both _ _ e).1; after_digits = fraction_digits ps p.0 p.1 })
 
-pub spelled_digits : (s : List ℕ) (d : Decimal) → spelled s ≡ some d → Digits d
+pub spelled_digits : (s : List ℕ) (d : Decimal) → spelled s ≡ Some d → Digits d
 spelled_digits s d h = pointed_digits (has_minus s) (cut_at 46 (after_sign s)) d h
 
 leading_digits : (s : List ℕ) → all_of is_digit s ≡ true → all_of is_digit (no_leading s) ≡ true
@@ -217,9 +216,9 @@ normal_fixed d h =
 pub normal_digits : (d : Decimal) → is_normal d ≡ true → Digits d
 normal_digits d h = let n = normal_parts d h in record { before_digits = n.before_digits; after_digits = n.after_digits }
 
-pub float_accepted : (s : List ℕ) (d : Decimal) → read_float s ≡ some d → is_normal d ≡ true
+pub float_accepted : (s : List ℕ) (d : Decimal) → read_float s ≡ Some d → is_normal d ≡ true
 float_accepted s d h =
-    let p = and_then-some (spelled s) (λ e. some (normal e)) d h in
+    let p = and_then-some (spelled s) (λ e. Some (normal e)) d h in
     let q : normal p.0 ≡ d = cc p.2 in
     rw (← q) (normal_is_normal p.0 (spelled_digits s p.0 p.1))
 

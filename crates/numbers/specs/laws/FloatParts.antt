@@ -2,12 +2,11 @@
 --     spelling_none, spelling_whole, spelling_pointed, spelling_other    what is spelled where no digit leads, where the digits reach the end,
 --                      where a point follows them, and where another byte does
 --     front_leading    leading zeros dropped before or after the digits are taken
-use Rattle.std.specs.Prelude.{◌≡◌, Bool, List, [], ◌∷◌, ℕ, ◌<◌, eqb, ltb, length}
+use Rattle.std.specs.Prelude.{◌≡◌, Bool, List, [], ◌∷◌, ℕ, ◌<◌, eqb, ltb, length, None, Some}
 use Rattle.std.proofs.Math.Path.{refl}
 use Rattle.std.proofs.Common.{sym, ap, ◌∙◌, arith, eqb-true, ne_eqb, lt-ltb}
 use Rattle.std.proofs.Math.Bool.{true, false}
 use Rattle.std.proofs.lemmas.Bool.{false≢true}
-use Rattle.std.proofs.Math.Option.{none, some}
 use Rattle.octets.specs.Pick.{pick, ◌and◌}
 use Rattle.octets.specs.laws.Pick.{and_no_right, and-true}
 use Rattle.octets.specs.Scan.{all_of}
@@ -64,7 +63,7 @@ fraction_is : (s : List ℕ) → fraction (cut_at 46 s) ≡ provided (is_digits 
 unfolding fraction pick
 fraction_is s = rw (cut_parts s 46) (go (is_empty (more_after 46 s)) refl)
   where
-    odd : (t : Bool) → all_of is_digit s ≡ t → is_empty (more_after 46 s) ≡ false → none ≡ provided (ltb 0 (length s) and t) s
+    odd : (t : Bool) → all_of is_digit s ≡ t → is_empty (more_after 46 s) ≡ false → None ≡ provided (ltb 0 (length s) and t) s
     odd true e k = absurd (false≢true (sym k ∙ digits_piece s e))
     odd false e k = rw (and_no_right (ltb 0 (length s)) false refl)
 
@@ -143,23 +142,23 @@ no_digits (b ∷ s) h = go (eqb b 46)
 -- ---- what is spelled
 
 module _ (m : Bool) (s : List ℕ) where
-  pub spelling_none : leads_in_digit s ≡ false → pointed m (cut_at 46 s) ≡ none
+  pub spelling_none : leads_in_digit s ≡ false → pointed m (cut_at 46 s) ≡ None
   unfolding pointed pick
   spelling_none h = rw (cut_parts s 46, no_digits s h)
 
-  pub spelling_whole : leads_in_digit s ≡ true → after_digits s ≡ [] → pointed m (cut_at 46 s) ≡ some (decimal m (front s) [])
+  pub spelling_whole : leads_in_digit s ≡ true → after_digits s ≡ [] → pointed m (cut_at 46 s) ≡ Some (decimal m (front s) [])
   unfolding pointed pick fraction and_then
   spelling_whole h k = rw (cut_parts s 46, (reach s k).0, (reach s k).1, front_digits s h)
 
-  pub spelling_pointed : {a : List ℕ} → leads_in_digit s ≡ true → after_digits s ≡ 46 ∷ a → pointed m (cut_at 46 s) ≡ pick (is_digits a) (some (decimal m (front s) a)) none
+  pub spelling_pointed : {a : List ℕ} → leads_in_digit s ≡ true → after_digits s ≡ 46 ∷ a → pointed m (cut_at 46 s) ≡ pick (is_digits a) (Some (decimal m (front s) a)) None
   unfolding pointed pick and_then
   spelling_pointed {a} h k = rw (cut_parts s 46, (meet s k).0, (meet s k).1, front_digits s h, fraction_is a) (go (is_digits a))
     where
-      go : (t : Bool) → and_then (provided t a) (λ x. some (decimal m (front s) x)) ≡ pick t (some (decimal m (front s) a)) none
+      go : (t : Bool) → and_then (provided t a) (λ x. Some (decimal m (front s) x)) ≡ pick t (Some (decimal m (front s) a)) None
       go true = refl
       go false = refl
 
-  pub spelling_other : {a : List ℕ} {x : ℕ} → after_digits s ≡ x ∷ a → (x ≡ 46 → ⊥) → pointed m (cut_at 46 s) ≡ none
+  pub spelling_other : {a : List ℕ} {x : ℕ} → after_digits s ≡ x ∷ a → (x ≡ 46 → ⊥) → pointed m (cut_at 46 s) ≡ None
   unfolding pointed pick
   spelling_other k n = rw (cut_parts s 46, odd_byte s k n, and_no_right (ltb 0 (length (before 46 s))) false refl)
 

@@ -5,9 +5,8 @@
 --     normal_forms            two normal forms are equal exactly when they state the same number
 --     float_same_number       two texts are read as the same FLOAT exactly when they spell the same number
 --     float_keeps_number      what is read is the number that is spelled
-use Rattle.std.specs.Prelude.{◌≡◌, refl, Bool, true, false, not, List, [], ◌↔◌, ℕ, ◌+◌, ◌*◌, ◌^◌, ltb, length}
+use Rattle.std.specs.Prelude.{◌≡◌, refl, Bool, true, false, not, List, [], ◌↔◌, ℕ, ◌+◌, ◌*◌, ◌^◌, ltb, length, Some}
 use Rattle.std.proofs.Common.{sym, ap, ◌∙◌, zero-mul, arith, pow-add, ltb-true, ltb-false}
-use Rattle.std.proofs.Math.Option.{some}
 use Rattle.octets.specs.Pick.{◌and◌}
 use Rattle.octets.specs.laws.Pick.{and_both}
 use Rattle.octets.specs.Scan.{all_of}
@@ -143,17 +142,17 @@ normal_forms a b h k =
     (λ s. sym p ∙ f.0 s ∙ q, λ e. f.1 (p ∙ e ∙ sym q))
 
 -- what is read is the number that is spelled
-pub float_keeps_number : (s : List ℕ) (a d : Decimal) → spelled s ≡ some a → read_float s ≡ some d → SameNumber a d
+pub float_keeps_number : (s : List ℕ) (a d : Decimal) → spelled s ≡ Some a → read_float s ≡ Some d → SameNumber a d
 unfolding and_then
 float_keeps_number s a d e h =
-    let r : some (normal a) ≡ some d = rw e at h in
+    let r : Some (normal a) ≡ Some d = rw e at h in
     let q : normal a ≡ d = cc r in
     let n = float_accepted s d h in
     normal_same a d (spelled_digits s a e) (normal_digits d n) (q ∙ sym (normal_fixed d n))
 
 -- two texts are read as the same FLOAT exactly when they spell the same number
-pub float_same_number : (s t : List ℕ) (a b : Decimal) → spelled s ≡ some a → spelled t ≡ some b → (SameNumber a b ↔ (read_float s ≡ read_float t))
+pub float_same_number : (s t : List ℕ) (a b : Decimal) → spelled s ≡ Some a → spelled t ≡ Some b → (SameNumber a b ↔ (read_float s ≡ read_float t))
 unfolding and_then
 float_same_number s t a b e f =
     let g = normal_number a b (spelled_digits s a e) (spelled_digits t b f) in
-    rw (e, f) (λ n. ap some (g.0 n), λ h. g.1 (cc))
+    rw (e, f) (λ n. ap Some (g.0 n), λ h. g.1 (cc))

@@ -1,7 +1,6 @@
 -- Laws of what specs/Geo.antt defines.
 --     IsGeo       a latitude and a longitude in normal form
-use Rattle.std.specs.Prelude.{◌≡◌, refl, Bool, true, false, not, List, [], ◌∷◌, ℕ, eqb}
-use Rattle.std.proofs.Math.Option.{none, some}
+use Rattle.std.specs.Prelude.{◌≡◌, refl, Bool, true, false, not, List, [], ◌∷◌, ℕ, eqb, None, Some}
 use Rattle.std.proofs.Common.{arith, ne_eqb}
 use Rattle.octets.specs.Pick.{pick, ◌and◌}
 use Rattle.octets.specs.Scan.{all_of}
@@ -28,7 +27,7 @@ cut_geo : (la lo : Decimal) → is_normal la ≡ true → is_normal lo ≡ true 
 unfolding none_holds joined_by each_after pick
 cut_geo la lo h k = rw (append_none (write_float lo)) at (cut_joined 59 (write_float la) (write_float lo ∷ []) (rw (no_semicolon la h, no_semicolon lo k)))
 
-pub geo_read_back : (la lo : Decimal) → is_normal la ≡ true → is_normal lo ≡ true → read_geo (write_geo la lo) ≡ some (geo la lo)
+pub geo_read_back : (la lo : Decimal) → is_normal la ≡ true → is_normal lo ≡ true → read_geo (write_geo la lo) ≡ Some (geo la lo)
 unfolding coordinates longitude pick and_then
 geo_read_back la lo h k = rw (cut_geo la lo h k, float_read_back la h, float_read_back lo k)
 
@@ -40,21 +39,21 @@ pub record IsGeo (v : Value) : Type 0 where
   pub latitude_normal : is_normal latitude ≡ true
   pub longitude_normal : is_normal longitude ≡ true
 
-longitude_accepted : (ps : List (List ℕ)) (d : Decimal) → longitude ps ≡ some d → is_normal d ≡ true
+longitude_accepted : (ps : List (List ℕ)) (d : Decimal) → longitude ps ≡ Some d → is_normal d ≡ true
 unfolding longitude pick
 longitude_accepted [] d h = none-some h
 longitude_accepted (s ∷ ps) d h = go (is_empty ps) h
   where
-    go : (t : Bool) → pick t (read_float s) none ≡ some d → is_normal d ≡ true
+    go : (t : Bool) → pick t (read_float s) None ≡ Some d → is_normal d ≡ true
     go true k = float_accepted s d k
     go false k = none-some k
 
-coordinates_accepted : (ps : List (List ℕ)) (v : Value) → coordinates ps ≡ some v → IsGeo v
+coordinates_accepted : (ps : List (List ℕ)) (v : Value) → coordinates ps ≡ Some v → IsGeo v
 unfolding coordinates
 coordinates_accepted [] v h = none-some h
 coordinates_accepted (s ∷ ps) v h =
-    let p = and_then-some (read_float s) (λ la. and_then (longitude ps) (λ lo. some (geo la lo))) v h in
-    let q = and_then-some (longitude ps) (λ lo. some (geo p.0 lo)) v p.2 in
+    let p = and_then-some (read_float s) (λ la. and_then (longitude ps) (λ lo. Some (geo la lo))) v h in
+    let q = and_then-some (longitude ps) (λ lo. Some (geo p.0 lo)) v p.2 in
     record {
       latitude = p.0;
       longitude = q.0;
@@ -63,7 +62,7 @@ coordinates_accepted (s ∷ ps) v h =
       longitude_normal = longitude_accepted ps q.0 q.1;
     }
 
-pub geo_accepted : (s : List ℕ) (v : Value) → read_geo s ≡ some v → IsGeo v
+pub geo_accepted : (s : List ℕ) (v : Value) → read_geo s ≡ Some v → IsGeo v
 geo_accepted s v h = coordinates_accepted (cut_at 59 s) v h
 
 pub geo_visible : (la lo : Decimal) → is_normal la ≡ true → is_normal lo ≡ true → all_of is_visible (write_geo la lo) ≡ true

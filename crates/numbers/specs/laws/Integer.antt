@@ -1,7 +1,6 @@
 -- Laws of what specs/Integer.antt defines.
 --     whole_minus, whole_rest, whole_all    the sign and the digits of what it writes, and a test that digits and the minus pass
-use Rattle.std.specs.Prelude.{◌≡◌, refl, Bool, true, false, List, ℕ, ◌^◌, ◌≤◌, ◌<◌, ltb, leb}
-use Rattle.std.proofs.Math.Option.{some}
+use Rattle.std.specs.Prelude.{◌≡◌, refl, Bool, true, false, List, ℕ, ◌^◌, ◌≤◌, ◌<◌, ltb, leb, Some}
 use Rattle.std.proofs.Common.{arith, lt-ltb, leb-true, ltb-false, le-leb}
 use Rattle.octets.specs.Pick.{pick, ◌and◌, within}
 use Rattle.octets.specs.laws.Pick.{within_yes, and_both}
@@ -31,12 +30,12 @@ whole_rest w = signed_rest w.negative (digits 9 w.magnitude) (lead w.magnitude)
 pub whole_all : (p : ℕ → Bool) → ((b : ℕ) → is_digit b ≡ true → p b ≡ true) → p 45 ≡ true → (w : Whole) → all_of p (write_whole w) ≡ true
 whole_all p f e w = signed_all p w.negative (digits 9 w.magnitude) e (all_weaker is_digit p f (digits 9 w.magnitude) (digits_all 9 w.magnitude))
 
-pub integer_read_back : (w : Whole) → is_integer w ≡ true → read_integer (write_integer w) ≡ some w
+pub integer_read_back : (w : Whole) → is_integer w ≡ true → read_integer (write_integer w) ≡ Some w
 unfolding pick ◌and◌
 integer_read_back w h = rw (whole_minus w, whole_rest w) (go w.negative w.magnitude h)
   where
     go : (m : Bool) (n : ℕ) → pick m (within 1 2147483648 n) (leb n 2147483647) ≡ true →
-        provided (is_number (most m) (digits 9 n)) (integer_of m (value 0 (digits 9 n))) ≡ some (record { negative = m; magnitude = n })
+        provided (is_number (most m) (digits 9 n)) (integer_of m (value 0 (digits 9 n))) ≡ Some (record { negative = m; magnitude = n })
     go true n k =
         let p = and_both (leb 1 n) (leb n 2147483648) k in
         let l : n ≤ 2147483648 = leb-true n 2147483648 p.1 in
@@ -56,7 +55,7 @@ whole_integer true n l = go (ltb 0 n) refl
     go false e = let z = ltb-false 0 n e in le-leb n 2147483647 (omega arith)
 whole_integer false n l = le-leb n 2147483647 l
 
-pub integer_accepted : (s : List ℕ) (w : Whole) → read_integer s ≡ some w → is_integer w ≡ true
+pub integer_accepted : (s : List ℕ) (w : Whole) → read_integer s ≡ Some w → is_integer w ≡ true
 integer_accepted s w h =
     let p = provided-some (is_number (most (has_minus s)) (after_sign s)) (integer_of (has_minus s) (value 0 (after_sign s))) w h in
     let q = and_both _ _ (and_both _ _ p.0).1 in

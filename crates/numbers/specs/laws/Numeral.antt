@@ -1,5 +1,5 @@
 -- Laws of what specs/Numeral.antt defines.
-use Rattle.std.specs.Prelude.{◌≡◌, Bool, List, [], ◌∷◌, ℕ, ◌+◌, ◌-◌, ◌*◌, ◌^◌, ◌≤◌, ◌<◌, eqb}
+use Rattle.std.specs.Prelude.{◌≡◌, Bool, List, [], ◌∷◌, ℕ, ◌+◌, ◌-◌, ◌*◌, ◌^◌, ◌≤◌, ◌<◌, eqb, None, Some}
 use Rattle.std.proofs.Math.Path.{refl}
 use Rattle.std.proofs.Common.{◌∙◌}
 use Rattle.std.proofs.Math.Bool.{true, false}
@@ -12,10 +12,10 @@ use Rattle.octets.specs.Class.{is_digit, is_alpha}
 use Rattle.octets.specs.Front.{up_to}
 use Rattle.octets.specs.Decimal.{value}
 use Rattle.octets.specs.laws.Decimal.{value_grows}
+use Rattle.octets.specs.Reading.{provided}
 use Rattle.source.specs.Source.{rest, spell, Reads}
 use Rattle.source.specs.laws.Facts.{spell_byte, spell_end}
 use Rattle.source.specs.declared.Step.{Step}
-use Rattle.numbers.specs.laws.Digit.{is_digit_lem, below_digit, above_digit}
 use Rattle.numbers.specs.Numeral.{front, Fronts, worth_to}
 
 -- ---- a step
@@ -57,26 +57,22 @@ module _ {l : Bool} {m : ℕ} {s : List ℕ} {c : ℕ} {r : Step} (p : Fronts l 
 -- ---- digits to the end, one a turn
 
 module _ (m n : ℕ) where
-  pub worth_end : {s : List ℕ} → s ≡ [] → n ≤ m → worth_to m n s ≡ n
+  pub worth_end : {s : List ℕ} → s ≡ [] → n ≤ m → worth_to m n s ≡ Some n
   unfolding worth_to all_of value pick ◌and◌
   worth_end e h = rw (e, le-leb n m h)
 
-  pub worth_low : {s t : List ℕ} {b : ℕ} → s ≡ b ∷ t → b < 48 → worth_to m n s ≡ 4294967295
+  pub worth_none : {s t : List ℕ} {b : ℕ} → s ≡ b ∷ t → is_digit b ≡ false → worth_to m n s ≡ None
   unfolding worth_to all_of pick ◌and◌
-  worth_low {s} {t} {b} e h = rw (e, below_digit b h)
+  worth_none e h = rw (e, h)
 
-  pub worth_high : {s t : List ℕ} {b : ℕ} → s ≡ b ∷ t → 57 < b → worth_to m n s ≡ 4294967295
-  unfolding worth_to all_of pick ◌and◌
-  worth_high {s} {t} {b} e h = rw (e, above_digit b h)
-
-  pub worth_more : {s t : List ℕ} {b : ℕ} → s ≡ b ∷ t → 48 ≤ b → b ≤ 57 → worth_to m n s ≡ worth_to m (n * 10 + (b - 48)) t
+  pub worth_more : {s t : List ℕ} {b : ℕ} → s ≡ b ∷ t → is_digit b ≡ true → worth_to m n s ≡ worth_to m (n * 10 + (b - 48)) t
   unfolding worth_to all_of value pick
-  worth_more {s} {t} {b} e h k = rw (e, is_digit_lem b h k)
+  worth_more e h = rw (e, h)
 
-  pub worth_much : {s t : List ℕ} {b : ℕ} → s ≡ b ∷ t → 48 ≤ b → b ≤ 57 → m < n * 10 + (b - 48) → worth_to m n s ≡ 4294967295
+  pub worth_much : {s t : List ℕ} {b : ℕ} → s ≡ b ∷ t → is_digit b ≡ true → m < n * 10 + (b - 48) → worth_to m n s ≡ None
   unfolding worth_to pick ◌and◌
-  worth_much {s} {t} {b} e h k l = worth_more e h k ∙ go (all_of is_digit t)
+  worth_much {s} {t} {b} e h l = worth_more e h ∙ go (all_of is_digit t)
     where
-      go : (c : Bool) → pick (c and leb (value (n * 10 + (b - 48)) t) m) (value (n * 10 + (b - 48)) t) 4294967295 ≡ 4294967295
+      go : (c : Bool) → provided (c and leb (value (n * 10 + (b - 48)) t) m) (value (n * 10 + (b - 48)) t) ≡ None
       go true = rw (lt-leb (value (n * 10 + (b - 48)) t) m (omega (arith, value_grows t (n * 10 + (b - 48)))))
       go false = refl

@@ -1,8 +1,7 @@
 -- A FLOAT written part by part: laws at each way that the code goes.
 --     put_same, todo_same    what is written, or is left to write, by another name
 --     trim_all               nothing is written yet of digits without trailing zeros
-use Rattle.std.specs.Prelude.{◌≡◌, refl, List, ℕ, ◌*◌, ◌^◌, ◌<◌, length}
-use Rattle.std.proofs.Math.Option.{Option}
+use Rattle.std.specs.Prelude.{◌≡◌, List, ℕ, ◌*◌, ◌^◌, ◌<◌, length}
 use Rattle.octets.specs.Append.{◌⊕◌}
 use Rattle.octets.specs.Reading.{or_nothing}
 use Rattle.source.specs.Source.{rest}

@@ -1,9 +1,8 @@
 -- Laws of what specs/ReadGeo.antt defines.
-use Rattle.std.specs.Prelude.{◌≡◌, refl, Bool, true, false, ℕ}
+use Rattle.std.specs.Prelude.{◌≡◌, refl, true, false, ℕ, Option, None, Some, is_some}
 use Rattle.std.proofs.Common.{sym, ap, ◌∙◌}
 use Rattle.std.proofs.lemmas.Bool.{false≢true}
 use mathlib.Core.List.{List, [], ◌∷◌}
-use Rattle.std.proofs.Math.Option.{Option, none, some}
 use borrow.Author.Tests.{eq-eqb, ne_eqb}
 use Rattle.octets.specs.Pick.{pick}
 use Rattle.octets.specs.Words.{cut_at}
@@ -13,12 +12,9 @@ use Rattle.source.specs.Source.{rest}
 use Rattle.numbers.specs.Float.{read_float}
 use Rattle.numbers.specs.Geo.{longitude, coordinates, read_geo}
 use Rattle.numbers.specs.Until.{until, before}
-use Rattle.numbers.specs.laws.Until.{until_all}
 use Rattle.numbers.specs.FloatParts.{more_after}
 use Rattle.numbers.specs.laws.FloatParts.{cut_parts, one_piece}
-use Rattle.numbers.specs.ReadGeo.{Parted, both_of, ReadsGeo}
-use Rattle.numbers.specs.declared.geo.Mark.{Mark}
-use Rattle.numbers.specs.declared.geo.GeoRead.TheVariants.{At, Bad}
+use Rattle.numbers.specs.ReadGeo.{pieces_of, Parted, both_of, ReadsGeo}
 
 -- ---- a separator
 
@@ -36,35 +32,22 @@ module _ (c : ℕ) {s t : List ℕ} {b : ℕ} (e : s ≡ b ∷ t) where
   unfolding more_after pick
   part_more h = rw (e, ne_eqb b c h)
 
-pub parted_no : {c m : ℕ} {s : List ℕ} {at n : ℕ} → more_after c (rest m s at) ≡ [] → Parted c m s at (record { ok = false; next = n })
-unfolding pick
+pub parted_no : {c m : ℕ} {s : List ℕ} {at : ℕ} → more_after c (rest m s at) ≡ [] → Parted c m s at None
 parted_no h = record { is = h }
 
-pub parted_yes : {c m : ℕ} {s : List ℕ} {at n : ℕ} → more_after c (rest m s at) ≡ cut_at c (rest m s n) → Parted c m s at (record { ok = true; next = n })
-unfolding pick
+pub parted_yes : {c m : ℕ} {s : List ℕ} {at n : ℕ} → more_after c (rest m s at) ≡ cut_at c (rest m s n) → Parted c m s at (Some n)
 parted_yes h = record { is = h }
 
 -- ---- the two numbers
 
-both_none : (x : Option Decimal) → both_of x none ≡ none
+both_none : (x : Option Decimal) → both_of x None ≡ None
 unfolding both_of and_then
-both_none none = refl
-both_none (some d) = refl
+both_none None = refl
+both_none (Some d) = refl
 
-none_both : (y : Option Decimal) → both_of none y ≡ none
+none_both : (y : Option Decimal) → both_of None y ≡ None
 unfolding both_of and_then
 none_both y = refl
-
-unread : {A : Type 0} (x : Option A) → is_read x ≡ false → x ≡ none
-unfolding is_read
-unread none h = refl
-unread (some a) h = let z : ◌≡◌ {A = Bool} true false = h in absurd (false≢true (sym z))
-
-both_read : (x y : Option Decimal) → is_read x ≡ true → is_read y ≡ true → is_read (both_of x y) ≡ true
-unfolding both_of and_then is_read
-both_read none y h k = absurd (false≢true h)
-both_read (some d) none h k = absurd (false≢true k)
-both_read (some d) (some e) h k = refl
 
 -- the longitude, by the pieces after the semicolon
 geo_parts : (l : List ℕ) → read_geo l ≡ both_of (read_float (before 59 l)) (longitude (more_after 59 l))
@@ -75,53 +58,41 @@ one_more : (l : List ℕ) → more_after 59 l ≡ [] → longitude (cut_at 59 l)
 unfolding longitude pick
 one_more l h = rw (cut_parts l 59, h, one_piece l 59 (rw h))
 
-two_more : (l r : List ℕ) → more_after 59 l ≡ cut_at 59 r → longitude (cut_at 59 l) ≡ none
+two_more : (l r : List ℕ) → more_after 59 l ≡ cut_at 59 r → longitude (cut_at 59 l) ≡ None
 unfolding longitude pick
 two_more l r h = rw (cut_parts l 59, h, cut_parts r 59)
 
-refused : (m : ℕ) (s : List ℕ) (at : ℕ) → read_geo (rest m s at) ≡ none → ReadsGeo m s at Bad
+refused : (m : ℕ) (s : List ℕ) (at : ℕ) → read_geo (rest m s at) ≡ None → ReadsGeo m s at None
 unfolding is_read
 refused m s at h = record { is = h; good = rw h }
 
-module _ (m : ℕ) (s : List ℕ) (at : ℕ) {f : Mark} (p : Parted 59 m s at f) where
-  pub geo_single : f.ok ≡ false → ReadsGeo m s at Bad
-  unfolding pick longitude
+module _ (m : ℕ) (s : List ℕ) (at : ℕ) {f : Option ℕ} (p : Parted 59 m s at f) where
+  pub geo_single : f ≡ None → ReadsGeo m s at None
+  unfolding longitude
   geo_single h = refused m s at (geo_parts (rest m s at) ∙ rw (p.is, h) (both_none (read_float (before 59 (rest m s at)))))
 
-  module _ {g : Mark} (q : Parted 59 m s f.next g) (h : f.ok ≡ true) where
-    pub geo_triple : g.ok ≡ true → ReadsGeo m s at Bad
-    unfolding pick
-    geo_triple k =
-        let e : more_after 59 (rest m s f.next) ≡ cut_at 59 (rest m s g.next) = rw k at q.is in
-        refused m s at (geo_parts (rest m s at) ∙ rw (p.is, h, two_more (rest m s f.next) (rest m s g.next) e) (both_none (read_float (before 59 (rest m s at)))))
+  module _ {e : ℕ} {g : Option ℕ} (h : f ≡ Some e) (q : Parted 59 m s e g) where
+    pub geo_triple : is_some g ≡ true → ReadsGeo m s at None
+    geo_triple k = go g k q.is
+      where
+        go : (g : Option ℕ) → is_some g ≡ true → more_after 59 (rest m s e) ≡ pieces_of 59 m s g → ReadsGeo m s at None
+        go None k r = absurd (false≢true k)
+        go (Some n) k r = refused m s at (geo_parts (rest m s at) ∙ rw (p.is, h, two_more (rest m s e) (rest m s n) r) (both_none (read_float (before 59 (rest m s at)))))
 
-    two : g.ok ≡ false → read_geo (rest m s at) ≡ both_of (read_float (until 59 m s at)) (read_float (rest m s f.next))
+    two : is_some g ≡ false → read_geo (rest m s at) ≡ both_of (read_float (until 59 m s at)) (read_float (rest m s e))
     unfolding pick until
-    two k =
-        let e : more_after 59 (rest m s f.next) ≡ [] = rw k at q.is in
-        geo_parts (rest m s at) ∙ rw (p.is, h, one_more (rest m s f.next) e)
+    two k = go g k q.is
+      where
+        go : (g : Option ℕ) → is_some g ≡ false → more_after 59 (rest m s e) ≡ pieces_of 59 m s g → read_geo (rest m s at) ≡ both_of (read_float (until 59 m s at)) (read_float (rest m s e))
+        go None k r = geo_parts (rest m s at) ∙ rw (p.is, h, one_more (rest m s e) r)
+        go (Some n) k r = absurd (false≢true (sym k))
 
-    pub geo_no_latitude : {a : Bool} → g.ok ≡ false → is_read (read_float (until 59 m s at)) ≡ a → a ≡ false → ReadsGeo m s at Bad
-    geo_no_latitude k x y = refused m s at (two k ∙ rw (unread (read_float (until 59 m s at)) (x ∙ y)) (none_both (read_float (rest m s f.next))))
+    pub geo_no_latitude : is_some g ≡ false → read_float (until 59 m s at) ≡ None → ReadsGeo m s at None
+    geo_no_latitude k x = refused m s at (two k ∙ rw x (none_both (read_float (rest m s e))))
 
-    pub geo_no_longitude : {b : Bool} → g.ok ≡ false → is_read (read_float (until 256 m s f.next)) ≡ b → b ≡ false → ReadsGeo m s at Bad
-    geo_no_longitude k x y =
-        let z : is_read (read_float (rest m s f.next)) ≡ false = rw (until_all m s f.next) at (x ∙ y) in
-        refused m s at (two k ∙ rw (unread (read_float (rest m s f.next)) z) (both_none (read_float (until 59 m s at))))
+    pub geo_no_longitude : is_some g ≡ false → read_float (rest m s e) ≡ None → ReadsGeo m s at None
+    geo_no_longitude k x = refused m s at (two k ∙ rw x (both_none (read_float (until 59 m s at))))
 
-    pub geo_both : {a b : Bool} → g.ok ≡ false → is_read (read_float (until 59 m s at)) ≡ a → a ≡ true →
-        is_read (read_float (until 256 m s f.next)) ≡ b → b ≡ true → ReadsGeo m s at (At f.next)
-    geo_both k x y v w =
-        let z : is_read (read_float (rest m s f.next)) ≡ true = rw (until_all m s f.next) at (v ∙ w) in
-        record {
-          is = two k;
-          good = ap is_read (two k) ∙ both_read (read_float (until 59 m s at)) (read_float (rest m s f.next)) (x ∙ y) z;
-        }
-
-pub read_some : (d : Decimal) → is_read (some d) ≡ true
-unfolding is_read
-read_some d = refl
-
-pub read_none : is_read {A = Decimal} none ≡ false
-unfolding is_read
-read_none = refl
+    pub geo_both : {x y : Decimal} → is_some g ≡ false → read_float (until 59 m s at) ≡ Some x → read_float (rest m s e) ≡ Some y → ReadsGeo m s at (Some e)
+    unfolding both_of and_then is_read
+    geo_both k x y = record { is = two k; good = ap is_read (two k) ∙ rw (x, y) refl }

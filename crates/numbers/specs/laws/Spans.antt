@@ -6,15 +6,16 @@
 --     sign_..        a sign passed over;   minus_at, lead_at    whether a minus, a digit stands at the cursor
 --     lead_.., point_..    what is written before and after the point
 --     trim_..        digits without trailing zeros
-use Rattle.std.specs.Prelude.{◌≡◌, Bool, not, ℕ, zero, suc, ◌+◌, ◌-◌, ◌≤◌, ◌<◌, ltb, length}
+use Rattle.std.specs.Prelude.{◌≡◌, Bool, not, ℕ, zero, suc, ◌+◌, ◌-◌, ◌<◌, length}
 use Rattle.std.proofs.Math.Path.{refl}
 use Rattle.std.proofs.Common.{sym, ap, ◌∙◌, add-one, arith}
 use Rattle.std.proofs.Math.Bool.{true, false}
 use Rattle.std.proofs.lemmas.Bool.{false≢true}
 use mathlib.Core.List.{List, [], ◌∷◌, ◌++◌}
 use Rattle.std.proofs.Math.Dec.{eqb}
-use borrow.Author.Tests.{eq-eqb, ne_eqb, eqb-true, lt-ltb}
+use borrow.Author.Tests.{ne_eqb, eqb-true, lt-ltb}
 use Rattle.octets.specs.Pick.{pick, ◌and◌, ◌or◌}
+use Rattle.octets.specs.laws.Pick.{within_range}
 use Rattle.octets.specs.Scan.{all_of}
 use Rattle.octets.specs.Append.{◌⊕◌}
 use Rattle.octets.specs.laws.Append.{append_none}
@@ -38,40 +39,50 @@ all_is (b ∷ s) = go (is_digit b) (all_is s)
 
 -- ---- digits at the front: passed over, or taken
 
-module _ {s : List ℕ} where
-  pub after_end : s ≡ [] → after_digits s ≡ s
-  unfolding after_digits
-  after_end e = rw e
+-- 256, which stands for the end, is no digit
+pub digit_byte : (u : ℕ) → is_digit u ≡ true → u ≡ 256 → ⊥
+digit_byte u h e = let r = within_range 48 57 u h in omega arith
 
-  pub front_end : s ≡ [] → front s ≡ []
-  unfolding front
-  front_end e = rw e
+-- what stands at the cursor is no digit, or is the end
+module _ {s : List ℕ} (u : ℕ) (t : List ℕ) (e : s ≡ spell u t) where
+  pub after_stop : is_digit u ≡ false → after_digits s ≡ s
+  unfolding after_digits spell pick
+  after_stop h = rw e (go (eqb u 256))
+    where
+      go : (v : Bool) → after_digits (pick v [] (u ∷ t)) ≡ pick v [] (u ∷ t)
+      go true = refl
+      go false = rw h
+
+  pub front_stop : is_digit u ≡ false → front s ≡ []
+  unfolding front spell pick
+  front_stop h = rw e (go (eqb u 256))
+    where
+      go : (v : Bool) → front (pick v [] (u ∷ t)) ≡ []
+      go true = refl
+      go false = rw h
+
+  -- it is no zero
+  pub leading_stop : (u ≡ 48 → ⊥) → no_leading s ≡ s
+  unfolding no_leading spell pick
+  leading_stop h = rw e (go (eqb u 256))
+    where
+      go : (v : Bool) → no_leading (pick v [] (u ∷ t)) ≡ pick v [] (u ∷ t)
+      go true = refl
+      go false = rw (ne_eqb u 48 h)
 
 module _ {s t : List ℕ} {b : ℕ} (e : s ≡ b ∷ t) where
   pub after_more : is_digit b ≡ true → after_digits s ≡ after_digits t
   unfolding after_digits pick
   after_more h = rw (e, h)
 
-  pub after_stop : is_digit b ≡ false → after_digits s ≡ s
-  unfolding after_digits pick
-  after_stop h = rw (e, h)
-
   pub front_more : is_digit b ≡ true → front s ≡ b ∷ front t
   unfolding front pick
   front_more h = rw (e, h)
-
-  pub front_stop : is_digit b ≡ false → front s ≡ []
-  unfolding front pick
-  front_stop h = rw (e, h)
 
   -- ---- leading zeros
   pub leading_more : b ≡ 48 → no_leading s ≡ no_leading t
   unfolding no_leading pick
   leading_more h = rw (e, h)
-
-  pub leading_stop : (b ≡ 48 → ⊥) → no_leading s ≡ s
-  unfolding no_leading pick
-  leading_stop h = rw (e, ne_eqb b 48 h)
 
   -- ---- zeros to the end
   pub zeros_more : b ≡ 48 → is_empty (no_trailing s) ≡ is_empty (no_trailing t)
@@ -98,10 +109,6 @@ module _ {s t : List ℕ} {b : ℕ} (e : s ≡ b ∷ t) where
       go : (v : Bool) → v ≡ is_empty (pick v [] (x ∷ r))
       go true = refl
       go false = refl
-
-pub leading_end : {s : List ℕ} → s ≡ [] → no_leading s ≡ s
-unfolding no_leading
-leading_end e = rw e
 
 pub zeros_end : {s : List ℕ} → s ≡ [] → is_empty (no_trailing s) ≡ true
 unfolding no_trailing

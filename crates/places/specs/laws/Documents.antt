@@ -3,11 +3,10 @@
 --     component_within, components_within    the children of a component, and of `components`
 --     root_within          the root
 --     document_place       a refusal's place is at most the document's length
-use Rattle.std.specs.Prelude.{◌≡◌, Bool, false, ℕ, ◌-◌, ◌≤◌}
+use Rattle.std.specs.Prelude.{◌≡◌, Bool, false, ℕ, ◌-◌, ◌≤◌, Option, None, Some}
 use Rattle.std.proofs.Math.Path.{refl}
 use Rattle.std.proofs.Math.Bool.{true}
 use mathlib.Core.List.{List, []}
-use Rattle.std.proofs.Math.Option.{Option, none, some}
 use native.Mathlib.Omega.{arith}
 use Rattle.std.proofs.Math.ListN.{length}
 use Rattle.octets.specs.Class.{upper}
@@ -28,8 +27,8 @@ use Rattle.places.specs.laws.Values.{Judges, sequence_within, value_within, para
 -- ---- the document
 
 pub characters_within : (s : List ℕ) (o : Option ℕ) → first_bad s ≡ o → Within (length s) (characters o)
-characters_within s none e = within_fine (length s)
-characters_within s (some p) e = within_refuse (length s) CHARACTER p (omega (arith, bad_inside s p e))
+characters_within s None e = within_fine (length s)
+characters_within s (Some p) e = within_refuse (length s) CHARACTER p (omega (arith, bad_inside s p e))
 
 module _ (ed : Edition) where
   module _ (n : ℕ) where

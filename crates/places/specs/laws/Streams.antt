@@ -3,11 +3,10 @@
 --     value_inside         the value of a text
 --     components_within    the verdict on components
 --     jcal_place           a refusal's place is at most the text's length;   jcal_place_small: and at most the input limit
-use Rattle.std.specs.Prelude.{◌≡◌, Bool, leb, eqb, length, drop}
+use Rattle.std.specs.Prelude.{◌≡◌, Bool, leb, eqb, length, drop, Option, None, Some}
 use Rattle.std.proofs.Math.Path.{refl}
 use Rattle.std.proofs.Math.Bool.{true, false}
 use mathlib.Core.List.{List, [], ◌∷◌}
-use Rattle.std.proofs.Math.Option.{Option, none, some}
 use Prim.Native.Nat.{ℕ, zero, suc, ◌+◌, ◌-◌, ◌≤◌, ◌<◌}
 use native.Mathlib.Omega.{arith}
 use borrow.Author.Tests.{leb-true}
@@ -26,8 +25,6 @@ use Rattle.json_text.specs.Strings.{quoted_length}
 use Rattle.json_text.specs.Check.{verdict}
 use Rattle.json_text.specs.Tree.{Json, string, number, literal, array, object, Elements, no_elements, element, Members, no_members, member, place_of, Token, opens_array, opens_object, closes, name, scalar, is_closing, is_separator, is_scalar, string_token, word_token, tokens_by, scan, end_by, end_place, first_of, elements_by, members_by, elements, members, value_of, element_list}
 use Rattle.json_text.specs.Kinds.{as_array, nth, first_in}
-use Rattle.json_text.specs.declared.Checked.{Checked}
-use Rattle.json_text.specs.declared.Checked.TheVariants.{Fine, At}
 use Rattle.json_grammar.specs.Faults.{Stops, by_byte, by_escape, by_end}
 use Rattle.json_grammar.proofs.laws.Places.{place_stops}
 use Rattle.validity.specs.ValidCalendar.{at_top}
@@ -170,13 +167,13 @@ module _ (n : ℕ) where
   -- ---- the verdict on properties and components
 
   at_within : (p : ℕ) (o : Option Refusal) → p ≤ n → Within n (at p o)
-  at_within p none h = within_fine n
-  at_within p (some r) h = within_refuse n r p h
+  at_within p None h = within_fine n
+  at_within p (Some r) h = within_refuse n r p h
 
   module _ (ed : Edition) where
     property_within : (k : List ℕ) (v : Json) (o : Option (List Json)) → place_of v ≤ n → Within n (property_verdict ed k v o)
-    property_within k v none h = within_refuse n FRAME (place_of v) h
-    property_within k v (some vs) h = at_within (place_of v) (property_fault ed k vs) h
+    property_within k v None h = within_refuse n FRAME (place_of v) h
+    property_within k v (Some vs) h = at_within (place_of v) (property_fault ed k vs) h
 
     properties_within : (k : List ℕ) (l : List Json) → InsideList l → Within n (properties_verdict ed k l)
     unfolding properties_verdict
@@ -236,9 +233,9 @@ stops_inside s k (by_byte h f g) = omega (arith, h)
 stops_inside s k (by_escape h f j a b g) = omega (arith, a, b)
 stops_inside s k (by_end h) = omega (arith, h)
 
-json_within : (s : List ℕ) (v : Checked) → verdict most_open s ≡ v → Within (length s) (json v)
-json_within s Fine e = within_fine (length s)
-json_within s (At k) e = within_refuse (length s) JSON k (stops_inside s k (place_stops most_open s k e))
+json_within : (s : List ℕ) (v : Option ℕ) → verdict most_open s ≡ v → Within (length s) (json v)
+json_within s None e = within_fine (length s)
+json_within s (Some k) e = within_refuse (length s) JSON k (stops_inside s k (place_stops most_open s k e))
 
 module _ (ed : Edition) (s : List ℕ) where
   inside : Within (length s) (characters (first_bad s) otherwise json (verdict most_open s) otherwise components_verdict ed (calendars_in (value_of s)) at_top levels false)

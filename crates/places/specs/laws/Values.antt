@@ -5,8 +5,7 @@
 --     value_within         an element of a property's value
 --     parameters_within    the children of `parameters`
 use mathlib.Core.List.{List, [], ◌∷◌}
-use Rattle.std.proofs.Math.Option.{Option, none, some}
-use Rattle.std.specs.Prelude.{ℕ, ◌≤◌}
+use Rattle.std.specs.Prelude.{ℕ, ◌≤◌, Option, None, Some}
 use Rattle.calendar.specs.Calendar.{ValueType}
 use Rattle.calendar.specs.Refusal.{Verdict}
 use Rattle.xml.specs.Nodes.{Nodes, no_nodes, element, literal, referred}
@@ -25,8 +24,8 @@ module _ (ed : Edition) where
 
     admitted_within : (o : Option ℕ) (p : ℕ) (m : List ℕ) (v : Verdict) (rest : ℕ → Verdict) → p ≤ n → Within n v → ((k : ℕ) → Within n (rest k)) →
         Within n (admitted o p m v rest)
-    admitted_within none p m v rest h a f = search bounding
-    admitted_within (some next) p m v rest h a f = within_otherwise n v (rest next) a (f next)
+    admitted_within None p m v rest h a f = search bounding
+    admitted_within (Some next) p m v rest h a f = within_otherwise n v (rest next) a (f next)
 
     pub sequence_within : (slots : List Slot) (f : ℕ → List ℕ → ℕ → Nodes → Verdict) → Judges n f →
         (ns : Nodes) (next : ℕ) (seen : List (List ℕ)) (e : ℕ) → Inside n ns → e ≤ n → Within n (sequence slots f ns next seen e)
@@ -64,8 +63,8 @@ module _ (ed : Edition) where
 
     as_typed_within : (o : Option ValueType) (k m : List ℕ) (t : ValueType) (p x : ℕ) (kids : Nodes) → p ≤ n → x ≤ n → Inside n kids →
         Within n (as_typed o k m t p x kids)
-    as_typed_within none k m t p x kids h l i = search bounding
-    as_typed_within (some u) k m t p x kids h l i = search (bounding, typed_within)
+    as_typed_within None k m t p x kids h l i = search bounding
+    as_typed_within (Some u) k m t p x kids h l i = search (bounding, typed_within)
 
     pub value_within : (k m : List ℕ) (t : ValueType) → Judges n (value_verdict k m t)
     unfolding value_verdict

@@ -5,11 +5,10 @@
 --     value_array, value_other, value_place    its value
 --     three_first, three_second, three_third, three_others     the first three of a list
 --     arrays        the rules of the elements of an array
-use Rattle.std.specs.Prelude.{◌≡◌, Bool, true, false, not, List, ◌∷◌, ℕ, ◌-◌, ◌≤◌, ◌<◌, length, drop}
+use Rattle.std.specs.Prelude.{◌≡◌, Bool, true, false, not, List, ◌∷◌, ℕ, ◌-◌, ◌≤◌, ◌<◌, length, drop, None, Some}
 use Rattle.std.proofs.Math.Path.{refl, sym, ap}
 use Rattle.std.proofs.Common.{◌∙◌, arith, drop-drop, rules}
 use Rattle.std.proofs.lemmas.Bool.{false≢true, not-true, not-false}
-use Rattle.std.proofs.Math.Option.{none, some}
 use Rattle.octets.specs.Pick.{pick, ◌or◌}
 use Rattle.octets.specs.Words.{is_empty}
 use Rattle.octets.specs.Reading.{and_then, is_read}
@@ -23,7 +22,7 @@ use Rattle.read_json.specs.Kinds.{is_there, is_string, is_array, is_object}
 use Rattle.read_json.specs.laws.Kinds.{kind_string, kind_array, kind_object, string_there, there_by, none_by, taken_by}
 use Rattle.read_json.specs.declared.Head.{Head}
 use Rattle.read_json.specs.declared.HeadKind.{HeadKind}
-use Rattle.read_json.specs.declared.HeadKind.TheVariants.{None, String, Number, Literal, Array, Object}
+use Rattle.read_json.specs.declared.HeadKind.TheVariants.{Absent, String, Number, Literal, Array, Object}
 use Rattle.read_jcal.specs.Arrays.{place_in, found_by, found, Inside, ThreeAt, ThreeIn, name_found, array_found, object_found}
 use Rattle.read_jcal.specs.declared.Three.{Three}
 
@@ -32,7 +31,7 @@ use Rattle.read_jcal.specs.declared.Three.{Three}
 module _ (s : List ℕ) (p n : ℕ) where
   first_by : (k : HeadKind) → first_in (element_list (head_by k s p n)) ≡ found_by k s p n
   unfolding element_list
-  first_by None = refl
+  first_by Absent = refl
   first_by String = refl
   first_by Number = refl
   first_by Literal = refl
@@ -41,34 +40,34 @@ module _ (s : List ℕ) (p n : ℕ) where
 
   others_by : (k : HeadKind) → drop 1 (element_list (head_by k s p n)) ≡ element_list (behind_by k s n)
   unfolding element_list
-  others_by None = refl
+  others_by Absent = refl
   others_by String = refl
   others_by Number = refl
   others_by Literal = refl
   others_by Array = refl
   others_by Object = refl
 
-  no_string_by : (k : HeadKind) → is_string k ≡ false → and_then (found_by k s p n) as_string ≡ none
+  no_string_by : (k : HeadKind) → is_string k ≡ false → and_then (found_by k s p n) as_string ≡ None
   unfolding and_then
-  no_string_by None h = refl
+  no_string_by Absent h = refl
   no_string_by String h = absurd (false≢true (sym h))
   no_string_by Number h = refl
   no_string_by Literal h = refl
   no_string_by Array h = refl
   no_string_by Object h = refl
 
-  no_array_by : (k : HeadKind) → is_array k ≡ false → and_then (found_by k s p n) as_array ≡ none
+  no_array_by : (k : HeadKind) → is_array k ≡ false → and_then (found_by k s p n) as_array ≡ None
   unfolding and_then
-  no_array_by None h = refl
+  no_array_by Absent h = refl
   no_array_by String h = refl
   no_array_by Number h = refl
   no_array_by Literal h = refl
   no_array_by Array h = absurd (false≢true (sym h))
   no_array_by Object h = refl
 
-  no_object_by : (k : HeadKind) → is_object k ≡ false → and_then (found_by k s p n) as_object ≡ none
+  no_object_by : (k : HeadKind) → is_object k ≡ false → and_then (found_by k s p n) as_object ≡ None
   unfolding and_then
-  no_object_by None h = refl
+  no_object_by Absent h = refl
   no_object_by String h = refl
   no_object_by Number h = refl
   no_object_by Literal h = refl
@@ -78,32 +77,32 @@ module _ (s : List ℕ) (p n : ℕ) where
 -- ---- an element by its kind
 
 module _ (s : List ℕ) (h : Head) where
-  pub as_string_lem : is_string h.kind ≡ true → name_found s h ≡ some (string_at s h.place)
+  pub as_string_lem : is_string h.kind ≡ true → name_found s h ≡ Some (string_at s h.place)
   unfolding and_then
   as_string_lem y = ap (λ (k : HeadKind). and_then (found_by k s h.place h.next) as_string) (kind_string h.kind y)
 
-  pub as_array_lem : is_array h.kind ≡ true → array_found s h ≡ some (element_list (elements_at s h.next))
+  pub as_array_lem : is_array h.kind ≡ true → array_found s h ≡ Some (element_list (elements_at s h.next))
   unfolding and_then
   as_array_lem y = ap (λ (k : HeadKind). and_then (found_by k s h.place h.next) as_array) (kind_array h.kind y)
 
-  pub as_object_lem : is_object h.kind ≡ true → object_found s h ≡ some (member_list (members_at s h.next))
+  pub as_object_lem : is_object h.kind ≡ true → object_found s h ≡ Some (member_list (members_at s h.next))
   unfolding and_then
   as_object_lem y = ap (λ (k : HeadKind). and_then (found_by k s h.place h.next) as_object) (kind_object h.kind y)
 
-  pub no_string : is_string h.kind ≡ false → name_found s h ≡ none
+  pub no_string : is_string h.kind ≡ false → name_found s h ≡ None
   no_string y = no_string_by s h.place h.next h.kind y
 
-  pub no_array : is_array h.kind ≡ false → array_found s h ≡ none
+  pub no_array : is_array h.kind ≡ false → array_found s h ≡ None
   no_array y = no_array_by s h.place h.next h.kind y
 
-  pub no_object : is_object h.kind ≡ false → object_found s h ≡ none
+  pub no_object : is_object h.kind ≡ false → object_found s h ≡ None
   no_object y = no_object_by s h.place h.next h.kind y
 
 -- ---- its value
 
 module _ (s : List ℕ) (p n : ℕ) where
-  other_by : (k : HeadKind) → is_array k ≡ false → as_array (value_by k s p n) ≡ none
-  other_by None h = refl
+  other_by : (k : HeadKind) → is_array k ≡ false → as_array (value_by k s p n) ≡ None
+  other_by Absent h = refl
   other_by String h = refl
   other_by Number h = refl
   other_by Literal h = refl
@@ -112,7 +111,7 @@ module _ (s : List ℕ) (p n : ℕ) where
 
   place_by : (k : HeadKind) → place_of (value_by k s p n) ≡ pick (is_there k) p 0
   unfolding pick
-  place_by None = refl
+  place_by Absent = refl
   place_by String = refl
   place_by Number = refl
   place_by Literal = refl
@@ -121,7 +120,7 @@ module _ (s : List ℕ) (p n : ℕ) where
 
   read_by : (k : HeadKind) → is_read (and_then (found_by k s p n) as_array) ≡ is_array k
   unfolding and_then is_read
-  read_by None = refl
+  read_by Absent = refl
   read_by String = refl
   read_by Number = refl
   read_by Literal = refl
@@ -132,7 +131,7 @@ module _ (s : List ℕ) (h : Head) where
   pub value_array : is_array h.kind ≡ true → value_of_head s h ≡ array h.place (end_place (tokens_at s h.next) 0) (elements_at s h.next)
   value_array y = ap (λ (k : HeadKind). value_by k s h.place h.next) (kind_array h.kind y)
 
-  pub value_other : is_array h.kind ≡ false → as_array (value_of_head s h) ≡ none
+  pub value_other : is_array h.kind ≡ false → as_array (value_of_head s h) ≡ None
   value_other y = other_by s h.place h.next h.kind y
 
   pub value_place : place_of (value_of_head s h) ≡ place_in h
@@ -159,6 +158,13 @@ module _ {s : List ℕ} {at : ℕ} {h : Head} (t : HeadAt s at h) where
   pub head_in : Inside s h
   head_in = record { next = t.inside; string = λ y. let k = taken (string_there h.kind y) in omega (arith, k.some, k.inside) }
 
+  pub element_here : is_there h.kind ≡ true → elements_at s at ≡ element (value_of_head s h) (behind_by h.kind s h.next)
+  element_here y = t.is ∙ there_by s h.place h.next h.kind y
+
+  pub list_here : is_there h.kind ≡ true → element_list (elements_at s at) ≡ value_of_head s h ∷ element_list (behind_by h.kind s h.next)
+  unfolding element_list
+  list_here y = ap element_list (element_here y)
+
   module _ {r : ℕ} (n : NextAt s h r) where
     pub others_found : drop 1 (element_list (elements_at s at)) ≡ element_list (elements_at s r)
     others_found = ap (λ (es : Elements). drop 1 (element_list es)) t.is ∙ others_by s h.place h.next h.kind ∙ ap element_list n.is
@@ -177,7 +183,7 @@ module _ {s : List ℕ} {at : ℕ} {h : Head} (t : HeadAt s at h) where
 
 any_by : (s : List ℕ) (p n : ℕ) (k : HeadKind) → is_there k ≡ not (is_empty (element_list (head_by k s p n)))
 unfolding element_list
-any_by s p n None = refl
+any_by s p n Absent = refl
 any_by s p n String = refl
 any_by s p n Number = refl
 any_by s p n Literal = refl
@@ -196,9 +202,9 @@ module _ {s : List ℕ} {at : ℕ} {h : Head} (t : HeadAt s at h) {b : Bool} (e 
   unfolding element_list
   amount_by l y = ap (λ (es : Elements). is_amount l (element_list es)) (t.is ∙ there_by s h.place h.next h.kind (sym e ∙ y))
 
-  pub amount_listed : {l : Bool} → b ≡ true → l ≡ true → true ≡ is_amount l (element_list (elements_at s at))
+  pub amount_listed : {l : Bool} → b ≡ true → l ≡ true → l ≡ is_amount l (element_list (elements_at s at))
   unfolding ◌or◌
-  amount_listed {l} y z = sym (amount_by l y ∙ rw z)
+  amount_listed {l} y z = z ∙ sym (amount_by l y ∙ rw z)
 
   module _ {l : Bool} (y : b ≡ true) (z : l ≡ false) {r : ℕ} (n : NextAt s h r) {m : Bool} (f : m ≡ not (is_empty (element_list (elements_at s r)))) where
     amount_rest : is_amount l (element_list (elements_at s at)) ≡ is_empty (element_list (elements_at s r))

@@ -1,12 +1,11 @@
 -- The calendars of a text: a stream of them, or one alone.
 --     streams      the rules of whether they are a stream
 --     calendars    the rules of the verdict on them
-use Rattle.std.specs.Prelude.{◌≡◌, Bool, List, ℕ}
+use Rattle.std.specs.Prelude.{◌≡◌, Bool, List, ℕ, Option, None, ⊤, Result}
 use Rattle.std.proofs.Math.Path.{refl, sym, ap}
 use Rattle.std.proofs.Common.{◌∙◌, rules}
 use Rattle.std.proofs.Math.Bool.{true, false}
 use Rattle.std.proofs.lemmas.Bool.{false≢true}
-use Rattle.std.proofs.Math.Option.{Option, none}
 use Rattle.octets.specs.Pick.{pick}
 use Rattle.octets.specs.Reading.{and_then, is_read}
 use Rattle.octets.specs.laws.Reading.{none-some}
@@ -22,19 +21,19 @@ use Rattle.read_json.specs.Heads.{value_by, value_of_head, head_by, HeadAt}
 use Rattle.read_json.specs.Kinds.{is_array}
 use Rattle.read_json.specs.declared.Head.{Head}
 use Rattle.read_json.specs.declared.HeadKind.{HeadKind}
-use Rattle.read_json.specs.declared.HeadKind.TheVariants.{None, String, Number, Literal, Array, Object}
-use Rattle.read_jcal.specs.Judging.{judged_as}
+use Rattle.read_json.specs.declared.HeadKind.TheVariants.{Absent, String, Number, Literal, Array, Object}
+use Rattle.refusals.specs.Fault.{judged_as}
+use Rattle.refusals.specs.declared.Fault.{Fault}
 use Rattle.read_jcal.specs.laws.Judging.{fine_after}
 use Rattle.read_jcal.specs.laws.Arrays.{first_found, value_array, value_other, array_read, head_inside}
 use Rattle.read_jcal.specs.Components.{Names}
 use Rattle.read_jcal.specs.Subcomponents.{ComponentAt, CompsAt}
-use Rattle.read_jcal.specs.declared.Judged.{Judged}
 use Rattle.read_jcal.specs.declared.Outer.TheVariants.{Stream}
 
 -- ---- the value of a text
 
 first_by : (s : List ℕ) (p n : ℕ) (k : HeadKind) → first_of (head_by k s p n) ≡ value_by k s p n
-first_by s p n None = refl
+first_by s p n Absent = refl
 first_by s p n String = refl
 first_by s p n Number = refl
 first_by s p n Literal = refl
@@ -47,7 +46,7 @@ value_is {s} {h} t = ap first_of t.is ∙ first_by s h.place h.next h.kind
 
 -- ---- whether it is a stream
 
-no_stream : (v : Json) → as_array v ≡ none → is_stream v ≡ false
+no_stream : (v : Json) → as_array v ≡ None → is_stream v ≡ false
 unfolding element_list and_then is_read
 no_stream (string p s) h = refl
 no_stream (number p s) h = refl
@@ -75,11 +74,11 @@ module _ (ed : Edition) {s : List ℕ} {h : Head} (t : HeadAt s 0 h) {b : Bool} 
   unfolding calendars_in
   calendars_are = rw (value_is t, e)
 
-  pub one_alone : {r : Judged} → b ≡ false → ComponentAt ed Stream levels false s h r → components_verdict ed (calendars_in (value_of s)) at_top levels false ≡ judged_as r
+  pub one_alone : {r : Result ⊤ Fault} → b ≡ false → ComponentAt ed Stream levels false s h r → components_verdict ed (calendars_in (value_of s)) at_top levels false ≡ judged_as r
   unfolding pick components_verdict
   one_alone y d = rw (calendars_are, y) (fine_after _ ∙ d.is at_top at_top_lem)
 
-  pub several : {r : Judged} → b ≡ true → CompsAt ed Stream levels false s h.next r → components_verdict ed (calendars_in (value_of s)) at_top levels false ≡ judged_as r
+  pub several : {r : Result ⊤ Fault} → b ≡ true → CompsAt ed Stream levels false s h.next r → components_verdict ed (calendars_in (value_of s)) at_top levels false ≡ judged_as r
   unfolding pick
   several y d = rw (calendars_are, y) (ap (λ (es : Elements). components_verdict ed es at_top levels false) stream_is ∙ d.is at_top at_top_lem)
     where

@@ -1,7 +1,7 @@
 -- Laws of what specs/Subcomponents.antt defines.
 --     wholes   the rules of a component
 --     Among    the invariant of the walk over components;   among: the rules
-use Rattle.std.specs.Prelude.{◌≡◌, refl, Bool, true, false, List, ℕ, ◌+◌, ◌*◌, ◌-◌, ◌≤◌, ◌<◌}
+use Rattle.std.specs.Prelude.{◌≡◌, refl, Bool, true, false, List, ℕ, ◌+◌, ◌*◌, ◌-◌, ◌≤◌, ◌<◌, ⊤, Result, Ok, Err}
 use Rattle.std.proofs.Common.{sym, ap, subst, ◌∙◌, arith, rules}
 use Rattle.names.specs.Table.{place_of}
 use Rattle.calendar.specs.Calendar.{Property}
@@ -21,15 +21,14 @@ use Rattle.read_json.specs.Kinds.{is_there}
 use Rattle.read_json.specs.declared.Head.{Head}
 use Rattle.tallies.specs.Counting.{Counted}
 use Rattle.tallies.specs.declared.Kept.{Kept}
-use Rattle.read_jcal.specs.Judging.{judged_as}
-use Rattle.read_jcal.specs.laws.Arrays.{none_found, element_found, head_inside, next_less}
-use Rattle.read_jcal.specs.Components.{Names, around, BehindAt, PartFits, BegunAt}
+use Rattle.refusals.specs.Fault.{judged_as}
+use Rattle.refusals.specs.declared.Fault.{Fault}
+use Prim.{tt}
+use Rattle.read_jcal.specs.laws.Arrays.{none_found, element_found, element_here, head_inside, next_less}
+use Rattle.read_jcal.specs.Components.{Names, around, BehindAt, BegunAt}
 use Rattle.read_jcal.specs.Subcomponents.{ComponentAt, CompsAt}
-use Rattle.read_jcal.specs.declared.Judged.{Judged}
-use Rattle.read_jcal.specs.declared.Judged.TheVariants.{Fine, Refused}
 use Rattle.read_jcal.specs.declared.Outer.{Outer}
 use Rattle.read_jcal.specs.declared.Outer.TheVariants.{Component}
-use Rattle.read_jcal.specs.declared.Part.TheVariants.{Ends, Opens}
 use Rattle.read_jcal.specs.declared.Begun.{Begun}
 
 -- the components that may stand in a component of the name i
@@ -50,31 +49,28 @@ module _ (i : List ℕ) {k : ℕ} (o : k ≡ place_of i component_names) (ps : L
 pub fall_in : (l : ℕ) {t : ℕ} → t ≡ 2 * l + 1 → 2 * l < t
 fall_in l e = omega arith
 
-module _ (ed : Edition) {o : Outer} {left : ℕ} {s : List ℕ} {inside : ℕ} {v : Json} {b : Begun} (d : BegunAt ed o left s inside v b) {k x : ℕ} (z : b.part ≡ Opens k x) where
-  fits : PartFits ed left d.name d.stated b.kept (Opens k x)
-  fits = subst (PartFits ed left d.name d.stated b.kept) z d.fits
-
+module _ (ed : Edition) {o : Outer} {left : ℕ} {s : List ℕ} {inside : ℕ} {v : Json} {b : Begun} (d : BegunAt ed o left s inside v (Ok b)) where
   pub whole_left : 1 ≤ left
-  whole_left = fits.2
+  whole_left = d.fits.2
 
-module _ (ed : Edition) {o : Outer} {left : ℕ} {s : List ℕ} (h : Head) {b : Begun} (d : BegunAt ed o left s h.next (value_of_head s h) b) where
-  pub whole_ends : (m : Bool) {j : Judged} → b.part ≡ Ends j → ComponentAt ed o left m s h j
-  whole_ends m z = record { is = λ may a. d.is may a m ∙ rw z }
+module _ (ed : Edition) {o : Outer} {left : ℕ} {s : List ℕ} (h : Head) where
+  pub whole_ends : (m : Bool) {f : Fault} → BegunAt ed o left s h.next (value_of_head s h) (Err f) → ComponentAt ed o left m s h (Err f)
+  whole_ends m d = record { is = λ may a. d.is may a m }
 
-  module _ {k x : ℕ} (z : b.part ≡ Opens k x) where
-    module _ (m : Bool) {n : Bool} (u : n ≡ method_at k b.kept.counts m) {r : Judged} (w : CompsAt ed (Component k) (left - 1) n s x r) where
-      inner_is : components_verdict ed (elements_at s x) (may_contain d.name) (left - 1) (method_for d.name d.stated m) ≡ judged_as r
-      inner_is =
-          ap (components_verdict ed (elements_at s x) (may_contain d.name) (left - 1)) (method_is d.name (fits ed d z).0 d.stated (fits ed d z).1 m ∙ sym u)
-          ∙ w.is (may_contain d.name) (names_in d.name (fits ed d z).0)
+  module _ {b : Begun} (d : BegunAt ed o left s h.next (value_of_head s h) (Ok b)) (m : Bool) {n : Bool} (u : n ≡ method_at b.component b.kept.counts m) where
+    inner_is : {r : Result ⊤ Fault} → CompsAt ed (Component b.component) (left - 1) n s b.components r →
+        components_verdict ed (elements_at s b.components) (may_contain d.name) (left - 1) (method_for d.name d.stated m) ≡ judged_as r
+    inner_is w =
+        ap (components_verdict ed (elements_at s b.components) (may_contain d.name) (left - 1)) (method_is d.name d.fits.0 d.stated d.fits.1 m ∙ sym u)
+        ∙ w.is (may_contain d.name) (names_in d.name d.fits.0)
 
-      pub whole_fails : {f y : ℕ} → r ≡ Refused f y → ComponentAt ed o left m s h (Refused f y)
-      unfolding ◌otherwise◌
-      whole_fails g = record { is = λ may a. d.is may a m ∙ rw (z, inner_is, g) }
+    pub whole_fails : {f : Fault} → CompsAt ed (Component b.component) (left - 1) n s b.components (Err f) → ComponentAt ed o left m s h (Err f)
+    unfolding ◌otherwise◌
+    whole_fails w = record { is = λ may a. d.is may a m ∙ rw (inner_is w) }
 
-      pub whole_behind : {v : Judged} → r ≡ Fine → BehindAt k b.kept m s x h.next v → ComponentAt ed o left m s h v
-      unfolding ◌otherwise◌
-      whole_behind g q = record { is = λ may a. d.is may a m ∙ rw (z, inner_is, g, complete_is d.name (fits ed d z).0 d.stated (fits ed d z).1 m s x) q.is }
+    pub whole_behind : {u : ⊤} {v : Result ⊤ Fault} → CompsAt ed (Component b.component) (left - 1) n s b.components (Ok u) → BehindAt b m s h.next v → ComponentAt ed o left m s h v
+    unfolding ◌otherwise◌
+    whole_behind w q = record { is = λ may a. d.is may a m ∙ rw (inner_is w, complete_is d.name d.fits.0 d.stated d.fits.1 m s b.components) q.is }
 
 pub ruleset wholes = (whole_ends, whole_fails, whole_behind, whole_left, rules)
 
@@ -92,17 +88,17 @@ module _ (ed : Edition) where
     with_elements : {es : Elements} → elements_at s at ≡ es → (may : List ℕ → Bool) → Names o may → components_verdict ed (elements_at s from) may left m ≡ components_verdict ed es may left m
     with_elements q may a = i.is may a ∙ ap (λ (es : Elements). components_verdict ed es may left m) q
 
-    pub among_none : b ≡ false → CompsAt ed o left m s from Fine
+    pub among_none : b ≡ false → CompsAt ed o left m s from (Ok tt)
     unfolding components_verdict
     among_none y = record { is = with_elements (none_found n (sym e ∙ y)) }
 
-    module _ (y : b ≡ true) {next : ℕ} (f : NextAt s h next) {r : Judged} (d : ComponentAt ed o left m s h r) where
-      pub among_fine : r ≡ Fine → Among ed o left m s from next
+    module _ (y : b ≡ true) where
+      pub among_fine : {next : ℕ} {u : ⊤} → ComponentAt ed o left m s h (Ok u) → NextAt s h next → Among ed o left m s from next
       unfolding components_verdict ◌otherwise◌
-      among_fine z = record { is = λ may a. with_elements (element_found n f (sym e ∙ y)) may a ∙ rw (d.is may a, z) }
+      among_fine d f = record { is = λ may a. with_elements (element_found n f (sym e ∙ y)) may a ∙ rw (d.is may a) }
 
-      pub among_bad : {x q : ℕ} → r ≡ Refused x q → CompsAt ed o left m s from (Refused x q)
+      pub among_bad : {x : Fault} → ComponentAt ed o left m s h (Err x) → CompsAt ed o left m s from (Err x)
       unfolding components_verdict ◌otherwise◌
-      among_bad z = record { is = λ may a. with_elements (element_found n f (sym e ∙ y)) may a ∙ rw (d.is may a, z) }
+      among_bad d = record { is = λ may a. with_elements (element_here n (sym e ∙ y)) may a ∙ rw (d.is may a) }
 
 pub ruleset among = (fall_in, among_start, among_none, among_fine, among_bad, head_inside, next_less, rules)

@@ -2,12 +2,11 @@
 --     first_.., base_..          the first value, as code finds it
 --     encoded_..                 a parameter that is ENCODING;   `search encodings`: the walk that looks for it
 --     encoding_is                of parameters that were read
-use Rattle.std.specs.Prelude.{◌≡◌, Bool, List, [], ◌∷◌, ℕ}
+use Rattle.std.specs.Prelude.{◌≡◌, Bool, List, [], ◌∷◌, ℕ, Option, Some, None}
 use Rattle.std.proofs.Math.Path.{refl, sym}
 use Rattle.std.proofs.Common.{ap, ◌∙◌, rules}
 use Rattle.std.proofs.Math.Bool.{true, false}
 use Rattle.std.proofs.lemmas.Bool.{false≢true}
-use Rattle.std.proofs.Math.Option.{Option, some}
 use borrow.Author.Tests.{eq-eqb, ne_eqb}
 use Rattle.octets.specs.Ascii.{ascii}
 use Rattle.octets.specs.Pick.{◌and◌, ◌or◌}
@@ -83,19 +82,19 @@ module _ (n : List ℕ) (vs : List Json) {l : List ℕ} (i : l ≡ n) {q : ℕ} 
   unfolding encoded_by ◌and◌
   encoded_other h = rw (← placed, ne_eqb q 6 h)
 
-module _ {s : List ℕ} {from at : ℕ} {m : MemberHead} (w : Walking (any_one is_encoded) s from at) (t : MemberAt s at m) where
-  pub encoding_none : m.there ≡ false → false ≡ any_one is_encoded (parameters_at s from)
+module _ {s : List ℕ} {from at : ℕ} (w : Walking (any_one is_encoded) s from at) where
+  pub encoding_none : MemberAt s at None → false ≡ any_one is_encoded (parameters_at s from)
   unfolding any_one
-  encoding_none q = sym (walk_none w t q)
+  encoding_none t = sym (walk_none w t)
 
-  module _ (q : m.there ≡ true) {b : Bool} (e : b ≡ encoded_by (string_at s m.name) (given_at s m.next)) where
+  module _ {m : MemberHead} (t : MemberAt s at (Some m)) {b : Bool} (e : b ≡ encoded_by (string_at s m.name) (given_at s m.next)) where
     pub encoding_here : b ≡ true → true ≡ any_one is_encoded (parameters_at s from)
     unfolding any_one given_at ◌or◌
-    encoding_here r = sym (walk_some w t q ∙ rw (← e, r))
+    encoding_here r = sym (walk_some w t ∙ rw (← e, r))
 
     pub encoding_later : b ≡ false → Walking (any_one is_encoded) s from m.next
     unfolding any_one given_at ◌or◌
-    encoding_later r = record { is = walk_some w t q ∙ rw (← e, r) }
+    encoding_later r = record { is = walk_some w t ∙ rw (← e, r) }
 
 pub ruleset encoding = (walking_start, encoding_none, encoding_here, encoding_later, member_inside, member_less, rules)
 
@@ -109,7 +108,7 @@ encoding_place : place_of (ascii "ENCODING") parameter_names ≡ 6
 unfolding octets_compute place_of
 encoding_place = refl
 
-encoding_words : parameter_words (ascii "ENCODING") ≡ some encodings
+encoding_words : parameter_words (ascii "ENCODING") ≡ Some encodings
 unfolding octets_compute parameter_row
 encoding_words = refl
 
@@ -121,7 +120,7 @@ abbrev pub parameter_of : List ℕ → List Value → Parameter
 parameter_of n vs = record { name = n; values = vs }
 
 -- the one value of ENCODING, as it was read
-word_read : (v : Json) (x : Value) → and_then (as_string v) (read_characters (ascii "ENCODING")) ≡ some x → (every (λ (y : Value). is_word_in (ascii "BASE64" ∷ []) (text_in y)) (x ∷ [])) ≡ same (read_or [] (as_string v)) (ascii "BASE64")
+word_read : (v : Json) (x : Value) → and_then (as_string v) (read_characters (ascii "ENCODING")) ≡ Some x → (every (λ (y : Value). is_word_in (ascii "BASE64" ∷ []) (text_in y)) (x ∷ [])) ≡ same (read_or [] (as_string v)) (ascii "BASE64")
 unfolding every is_one_of read_or ◌and◌ ◌or◌
 word_read v x h =
     let a = and_then-some (as_string v) (read_characters (ascii "ENCODING")) x h in
@@ -132,10 +131,10 @@ word_read v x h =
     alone true = refl
     alone false = refl
 
-    go : (l : List ℕ) (y : Value) → as_string v ≡ some l → text l ≡ y → every (λ (z : Value). is_word_in (ascii "BASE64" ∷ []) (text_in z)) (y ∷ []) ≡ same (read_or [] (as_string v)) (ascii "BASE64")
+    go : (l : List ℕ) (y : Value) → as_string v ≡ Some l → text l ≡ y → every (λ (z : Value). is_word_in (ascii "BASE64" ∷ []) (text_in z)) (y ∷ []) ≡ same (read_or [] (as_string v)) (ascii "BASE64")
     go l y e f = rw (e, ← f) (alone (same l (ascii "BASE64")))
 
-one_read : (vs : List Json) (xs : List Value) → read_each (λ v. and_then (as_string v) (read_characters (ascii "ENCODING"))) vs ≡ some xs → is_amount false xs ≡ true →
+one_read : (vs : List Json) (xs : List Value) → read_each (λ v. and_then (as_string v) (read_characters (ascii "ENCODING"))) vs ≡ Some xs → is_amount false xs ≡ true →
     every (λ (y : Value). is_word_in (ascii "BASE64" ∷ []) (text_in y)) xs ≡ first_is (ascii "BASE64") vs
 unfolding read_each first_is ◌or◌
 one_read [] xs h k = let z : [] ≡ xs = cc in absurd (false≢true (ap (is_amount false) z ∙ k))
@@ -149,14 +148,14 @@ one_read (v ∷ vs) xs h k =
     go x [] e f = rw (← e) f
     go x (y ∷ l) e f = absurd (false≢true (ap (is_amount false) e ∙ k))
 
-member_is : (m : Member) (p : Parameter) → read_parameter m ≡ some p → is_base64_encoding p ≡ is_encoded m
+member_is : (m : Member) (p : Parameter) → read_parameter m ≡ Some p → is_base64_encoding p ≡ is_encoded m
 unfolding read_parameter encoded_by ◌and◌
 member_is m p h =
     let a = and_then-some (read_each (λ v. and_then (as_string v) (read_characters (upper m.name))) (or_alone m.value)) (λ vs. provided (is_amount (is_listed_parameter (upper m.name)) vs) (parameter_of (upper m.name) vs)) p h in
     let b = provided-some (is_amount (is_listed_parameter (upper m.name)) a.0) (parameter_of (upper m.name) a.0) p a.2 in
     rw (← b.1, ← encoding_place, ← (same_place (upper m.name) (ascii "ENCODING") parameter_names encoding_known)) (go (same (upper m.name) (ascii "ENCODING")) refl a.0 a.1 b.0)
   where
-    go : (t : Bool) → same (upper m.name) (ascii "ENCODING") ≡ t → (xs : List Value) → read_each (λ v. and_then (as_string v) (read_characters (upper m.name))) (or_alone m.value) ≡ some xs →
+    go : (t : Bool) → same (upper m.name) (ascii "ENCODING") ≡ t → (xs : List Value) → read_each (λ v. and_then (as_string v) (read_characters (upper m.name))) (or_alone m.value) ≡ Some xs →
         is_amount (is_listed_parameter (upper m.name)) xs ≡ true → (t and every (λ (y : Value). is_word_in (ascii "BASE64" ∷ []) (text_in y)) xs) ≡ (t and first_is (ascii "BASE64") (or_alone m.value))
     go false e xs r k = refl
     go true e xs r k =
@@ -164,7 +163,7 @@ member_is m p h =
         one_read (or_alone m.value) xs (ap (λ (n : List ℕ). read_each (λ v. and_then (as_string v) (read_characters n)) (or_alone m.value)) (sym z) ∙ r)
         (ap (λ (b : Bool). is_amount b xs) (sym encoding_single ∙ ap is_listed_parameter (sym z)) ∙ k)
 
-pub encoding_is : (ms : List Member) (ps : List Parameter) → read_each read_parameter ms ≡ some ps → any_one is_base64_encoding ps ≡ any_one is_encoded ms
+pub encoding_is : (ms : List Member) (ps : List Parameter) → read_each read_parameter ms ≡ Some ps → any_one is_base64_encoding ps ≡ any_one is_encoded ms
 unfolding read_each any_one
 encoding_is [] ps h = let z : [] ≡ ps = cc in rw (← z)
 encoding_is (m ∷ ms) ps h =

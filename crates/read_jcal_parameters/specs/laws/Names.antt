@@ -2,7 +2,7 @@
 --     Smalls           the invariant of the walk over characters;   `search smalls`
 --     bad_..           a bad name, as code tests it
 --     naming           the walk over the names of members
-use Rattle.std.specs.Prelude.{◌≡◌, refl, Bool, true, false, not, List, [], ◌∷◌, ℕ, ◌+◌, ◌-◌, ◌*◌, ◌<◌, eqb, length}
+use Rattle.std.specs.Prelude.{◌≡◌, refl, Bool, true, false, not, List, [], ◌∷◌, ℕ, ◌+◌, ◌-◌, ◌*◌, ◌<◌, eqb, length, None, Some}
 use Rattle.std.proofs.Math.Path.{sym}
 use Rattle.std.proofs.Common.{ap, ◌∙◌, arith, rules, eq-eqb, ne_eqb}
 use Rattle.octets.specs.Ascii.{ascii}
@@ -125,18 +125,18 @@ module _ {l n : List ℕ} (i : l ≡ n) {a : Bool} (e : a ≡ is_bad_name l) whe
 
 -- ---- the names of members
 
-module _ {s : List ℕ} {from at : ℕ} {m : MemberHead} (w : Walking (any_one is_bad_parameter) s from at) (t : MemberAt s at m) where
-  pub naming_none : m.there ≡ false → false ≡ any_one is_bad_parameter (member_list (members_at s from))
+module _ {s : List ℕ} {from at : ℕ} (w : Walking (any_one is_bad_parameter) s from at) where
+  pub naming_none : MemberAt s at None → false ≡ any_one is_bad_parameter (member_list (members_at s from))
   unfolding any_one parameters_at
-  naming_none q = sym (walk_none w t q)
+  naming_none t = sym (walk_none w t)
 
-  module _ (q : m.there ≡ true) {b : Bool} (e : b ≡ is_bad_parameter_name (string_at s m.name)) where
+  module _ {m : MemberHead} (t : MemberAt s at (Some m)) {b : Bool} (e : b ≡ is_bad_parameter_name (string_at s m.name)) where
     pub naming_bad : b ≡ true → true ≡ any_one is_bad_parameter (member_list (members_at s from))
     unfolding any_one parameters_at is_bad_parameter_name ◌or◌
-    naming_bad r = sym (walk_some w t q ∙ rw (← e, r))
+    naming_bad r = sym (walk_some w t ∙ rw (← e, r))
 
     pub naming_good : b ≡ false → Walking (any_one is_bad_parameter) s from m.next
     unfolding any_one is_bad_parameter_name ◌or◌
-    naming_good r = record { is = walk_some w t q ∙ rw (← e, r) }
+    naming_good r = record { is = walk_some w t ∙ rw (← e, r) }
 
 pub ruleset naming = (walking_start, naming_none, naming_bad, naming_good, member_inside, member_less, rules)

@@ -4,7 +4,7 @@
 --     behind_.., before_.., between_..    a name between two that rise is none of them
 --     Missing, missing_..      the walk over names that are none of them;   `search missings`
 --     passes_..                a round
-use Rattle.std.specs.Prelude.{◌≡◌, refl, Bool, true, false, List, ◌∷◌, ℕ, zero, suc, ◌+◌, ◌-◌, ◌≤◌, ◌<◌, eqb, ltb, get_or}
+use Rattle.std.specs.Prelude.{◌≡◌, refl, Bool, true, false, List, ◌∷◌, ℕ, zero, suc, ◌+◌, ◌-◌, ◌≤◌, ◌<◌, eqb, ltb, get_or, None, Some}
 use Rattle.std.proofs.Common.{sym, ap, ◌∙◌, arith, rules, eq-eqb, ne_eqb, eqb-true, ltb-true, ltb-false}
 use Rattle.std.proofs.lemmas.Bool.{false≢true, eqb-false}
 use Rattle.octets.specs.Pick.{pick, ◌or◌}
@@ -24,7 +24,7 @@ use Rattle.read_json.specs.declared.MemberHead.{MemberHead}
 use Rattle.read_jcal_parameters.specs.laws.Shapes.{member_taken, member_fits, member_less}
 use Rattle.read_jcal_parameters.specs.Apart.{names_at}
 use Rattle.read_jcal_parameters.specs.laws.Apart.{names_none, names_some}
-use Rattle.read_jcal_parameters.specs.Rounds.{Standing, Stands, name_of, Found, Behind, Before, Apart, Absent, Passes}
+use Rattle.read_jcal_parameters.specs.Rounds.{Standing, Stands, name_of, Found, Behind, Before, Apart, Absent, PassedTo}
 
 -- ---- names that rise
 
@@ -82,7 +82,7 @@ found_start s P n from = record {
   inside = λ l. absurd (omega arith);
 }
 
-module _ {s P : List ℕ} {n from at : ℕ} {m : MemberHead} (f : Found s P n from at) (t : MemberAt s at m) (q : m.there ≡ true) (g : Standing P n m.name) where
+module _ {s P : List ℕ} {n from at : ℕ} {m : MemberHead} (f : Found s P n from at) (t : MemberAt s at (Some m)) (g : Standing P n m.name) where
   unfoldable number' : ℕ → ℕ
   number' k = pick (eqb k f.count) g.number (f.number k)
 
@@ -107,13 +107,13 @@ module _ {s P : List ℕ} {n from at : ℕ} {m : MemberHead} (f : Found s P n fr
 
   found_next : Found s P n from m.next
   found_next =
-      let h = member_taken t q in
+      let h = member_taken t in
       record {
         count = f.count + 1;
         number = number';
         is =
             f.is
-            ∙ ap (listed f.count (λ k. name_of s P (f.number k))) (names_some t q ∙ ap (λ (w : List ℕ). w ∷ names_at s m.next) (sym named))
+            ∙ ap (listed f.count (λ k. name_of s P (f.number k))) (names_some t ∙ ap (λ (w : List ℕ). w ∷ names_at s m.next) (sym named))
             ∙ listed_same f.count (λ k. name_of s P (f.number k)) (λ k. name_of s P (number' k)) _ (λ i l. ap (name_of s P) (sym (at_other i l)))
             ∙ sym (listed_next f.count (λ k. name_of s P (number' k)) (names_at s m.next));
         below = λ k l. by_number (λ i j. j < n) k l g.below f.below;
@@ -125,8 +125,8 @@ module _ {s P : List ℕ} {n from at : ℕ} {m : MemberHead} (f : Found s P n fr
         inside = λ l. h.inside;
       }
 
-pub found_more : {s P : List ℕ} {n from at : ℕ} {m : MemberHead} {b : Bool} → Found s P n from at → MemberAt s at m → m.there ≡ true → Stands P n m.name b → b ≡ true → Found s P n from m.next
-found_more f t q g h = found_next f t q (g.is h)
+pub found_more : {s P : List ℕ} {n from at : ℕ} {m : MemberHead} {b : Bool} → Found s P n from at → MemberAt s at (Some m) → Stands P n m.name b → b ≡ true → Found s P n from m.next
+found_more f t g h = found_next f t (g.is h)
 
 pub ruleset founds = (found_start, found_more, member_fits, member_less, rules)
 
@@ -160,19 +160,16 @@ pub record Missing (s P : List ℕ) (n from at : ℕ) : Type 0 where
 pub missing_start : (s P : List ℕ) (n from : ℕ) → Missing s P n from from
 missing_start s P n from = record { is = λ i l. refl }
 
-module _ {s P : List ℕ} {n from at : ℕ} {m : MemberHead} (w : Missing s P n from at) (t : MemberAt s at m) where
-  pub missing_all : m.there ≡ false → Absent s P n from true
+module _ {s P : List ℕ} {n from at : ℕ} (w : Missing s P n from at) where
+  pub missing_all : MemberAt s at None → Absent s P n from
   unfolding is_one_of
-  missing_all q = record { is = λ h i l. w.is i l ∙ rw (names_none t q) }
+  missing_all t = record { is = λ i l. w.is i l ∙ rw (names_none t) }
 
-  pub missing_more : {b : Bool} → m.there ≡ true → Apart s P n m.name b → b ≡ true → Missing s P n from m.next
+  pub missing_more : {m : MemberHead} {b : Bool} → MemberAt s at (Some m) → Apart s P n m.name b → b ≡ true → Missing s P n from m.next
   unfolding is_one_of ◌or◌
-  missing_more q a h = record { is = λ i l. w.is i l ∙ rw (names_some t q, a.is h i l) }
+  missing_more t a h = record { is = λ i l. w.is i l ∙ rw (names_some t, a.is h i l) }
 
-pub missing_not : {s P : List ℕ} {n at : ℕ} → Absent s P n at false
-missing_not = record { is = λ h. absurd (false≢true h) }
-
-pub ruleset missings = (missing_start, missing_all, missing_more, missing_not, member_fits, member_less, rules)
+pub ruleset missings = (missing_start, missing_all, missing_more, member_fits, member_less, rules)
 
 -- ---- a round
 
@@ -184,14 +181,11 @@ apart_before w (suc n) more a b =
     apart_before w n (w n ∷ more) (λ p q k l. a p q k (omega arith)) (λ p l. or_no (same (w p) (w n)) (is_one_of (w p) more) (a p n l (omega arith)) (b p (omega arith)))
     ∙ rw (b n (omega arith))
 
-pub passes_all : {s P : List ℕ} {m n from at : ℕ} {b : Bool} → Rising (string_at s) P m → n ≤ m → Found s P n from at → Absent s P n at b → b ≡ true → Passes s from true at
-passes_all {s} {P} {m} {n} {from} {at} rising few f a z = record {
-  is = λ h. ap distinct f.is
+pub passes_all : {s P : List ℕ} {m n from at : ℕ} → Rising (string_at s) P m → n ≤ m → Found s P n from at → Absent s P n at → PassedTo s from at
+passes_all {s} {P} {m} {n} {from} {at} rising few f a = record {
+  is = ap distinct f.is
       ∙ apart_before (λ k. name_of s P (f.number k)) f.count (names_at s at)
       (λ p q k l. rising_apart (rising_fewer rising few) (f.number p) (f.number q) (λ e. let z = f.rises p q k l in let y : get_or P (f.number p) 0 ≡ get_or P (f.number q) 0 = ap (λ (i : ℕ). get_or P i 0) e in omega arith) (f.below p (omega arith)) (f.below q l))
-      (λ p l. a.is z (f.number p) (f.below p l));
-  inside = λ h. f.inside;
+      (λ p l. a.is (f.number p) (f.below p l));
+  inside = f.inside;
 }
-
-pub passes_not : {s : List ℕ} {from at : ℕ} → Passes s from false at
-passes_not = record { is = λ h. absurd (false≢true h); inside = λ h. absurd (false≢true h) }

@@ -4,25 +4,24 @@
 --     string_inside, string_less, head_inside      bounds
 --     members_none, members_some                   the members of an object, by the one that was found;   member_taken, member_inside, member_fits, member_less: bounds
 --     Walking                                      a walk over members: what is asked of all is asked of those that are left
-use Rattle.std.specs.Prelude.{◌≡◌, Bool, ℕ, ◌-◌, ◌*◌, ◌^◌, ◌≤◌, ◌<◌, length}
+use Rattle.std.specs.Prelude.{◌≡◌, Bool, ℕ, ◌-◌, ◌*◌, ◌^◌, ◌≤◌, ◌<◌, length, None, Some}
 use Rattle.std.proofs.Math.Path.{refl, sym, ap}
 use Rattle.std.proofs.Common.{subst, ◌∙◌, arith}
 use Rattle.std.proofs.Math.Bool.{true, false}
 use Rattle.std.proofs.lemmas.Bool.{false≢true}
 use mathlib.Core.List.{List, [], ◌∷◌}
-use Rattle.std.proofs.Math.Option.{none}
 use Rattle.octets.specs.Reading.{read_or}
 use Rattle.json_text.specs.Tree.{Json, string, Member, Elements, first_of, element_list, member_list}
 use Rattle.json_text.specs.Kinds.{as_string, or_alone}
-use Rattle.read_json.specs.TreeAt.{elements_at, members_at, string_at}
+use Rattle.read_json.specs.TreeAt.{elements_at, string_at}
 use Rattle.read_json.specs.Pieces.{Taken}
 use Rattle.read_json.specs.Heads.{value_by, behind_by, head_by, HeadTakes, HeadAt, NextAt}
-use Rattle.read_json.specs.MemberHeads.{member_by, MemberTakes, MemberAt}
+use Rattle.read_json.specs.MemberHeads.{MemberAt}
 use Rattle.read_json.specs.Kinds.{is_none, is_string, is_array}
 use Rattle.read_json.specs.laws.Kinds.{kind_none, kind_string, kind_array}
 use Rattle.read_json.specs.declared.Head.{Head}
 use Rattle.read_json.specs.declared.HeadKind.{HeadKind}
-use Rattle.read_json.specs.declared.HeadKind.TheVariants.{None, String, Number, Literal, Array, Object}
+use Rattle.read_json.specs.declared.HeadKind.TheVariants.{Absent, String, Number, Literal, Array, Object}
 use Rattle.read_json.specs.declared.MemberHead.{MemberHead}
 use Rattle.read_jcal_parameters.specs.Shapes.{list_at, given_at, parameters_at, member_of}
 
@@ -33,7 +32,7 @@ pub record Other (vs : List Json) : Type 0 where
   pub first : Json
   pub more : List Json
   pub is : vs ≡ first ∷ more
-  pub kind : as_string first ≡ none
+  pub kind : as_string first ≡ None
 
 module _ {s : List ℕ} {at : ℕ} {h : Head} (t : HeadAt s at h) where
   by_kind : (k : HeadKind) → h.kind ≡ k → elements_at s at ≡ head_by k s h.place h.next
@@ -44,14 +43,14 @@ module _ {s : List ℕ} {at : ℕ} {h : Head} (t : HeadAt s at h) where
 
   pub list_end : {b : Bool} → b ≡ is_none h.kind → b ≡ true → list_at s at ≡ []
   unfolding list_at element_list
-  list_end e q = ap element_list (by_kind None (kind_none h.kind (sym e ∙ q)))
+  list_end e q = ap element_list (by_kind Absent (kind_none h.kind (sym e ∙ q)))
 
   pub list_some : {b : Bool} → b ≡ is_none h.kind → b ≡ false → (v : Json) × (vs : List Json) × (list_at s at ≡ v ∷ vs)
   unfolding list_at element_list
   list_some e q = go h.kind refl (sym e ∙ q)
     where
       go : (k : HeadKind) → h.kind ≡ k → is_none k ≡ false → (v : Json) × (vs : List Json) × (element_list (elements_at s at) ≡ v ∷ vs)
-      go None z f = absurd (false≢true (sym f))
+      go Absent z f = absurd (false≢true (sym f))
       go String z f = (_, _, ap element_list (by_kind String z))
       go Number z f = (_, _, ap element_list (by_kind Number z))
       go Literal z f = (_, _, ap element_list (by_kind Literal z))
@@ -67,7 +66,7 @@ module _ {s : List ℕ} {at : ℕ} {h : Head} (t : HeadAt s at h) where
       on k z = sym (ap (λ (x : HeadKind). behind_by x s h.next) z) ∙ n.is
 
       go : (k : HeadKind) → h.kind ≡ k → is_none k ≡ false → (v : Json) × (element_list (elements_at s at) ≡ v ∷ element_list (elements_at s r))
-      go None z f = absurd (false≢true (sym f))
+      go Absent z f = absurd (false≢true (sym f))
       go String z f = (value_by String s h.place h.next, ap element_list (by_kind String z) ∙ ap (λ (es : Elements). value_by String s h.place h.next ∷ element_list es) (on String z))
       go Number z f = (value_by Number s h.place h.next, ap element_list (by_kind Number z) ∙ ap (λ (es : Elements). value_by Number s h.place h.next ∷ element_list es) (on Number z))
       go Literal z f = (value_by Literal s h.place h.next, ap element_list (by_kind Literal z) ∙ ap (λ (es : Elements). value_by Literal s h.place h.next ∷ element_list es) (on Literal z))
@@ -79,7 +78,7 @@ module _ {s : List ℕ} {at : ℕ} {h : Head} (t : HeadAt s at h) where
   list_other e q f r = go h.kind refl (sym e ∙ q) (sym f ∙ r)
     where
       go : (k : HeadKind) → h.kind ≡ k → is_string k ≡ false → is_none k ≡ false → Other (element_list (elements_at s at))
-      go None z x y = absurd (false≢true (sym y))
+      go Absent z x y = absurd (false≢true (sym y))
       go String z x y = absurd (false≢true (sym x))
       go Number z x y = record { first = _; more = _; is = ap element_list (by_kind Number z); kind = refl }
       go Literal z x y = record { first = _; more = _; is = ap element_list (by_kind Literal z); kind = refl }
@@ -121,7 +120,7 @@ module _ {s : List ℕ} {at : ℕ} {h : Head} (t : HeadAt s at h) where
       alone k z = ap (λ (es : Elements). or_alone (first_of es)) (by_kind k z)
 
       go : (k : HeadKind) → h.kind ≡ k → is_array k ≡ false → is_string k ≡ false → Other (or_alone (first_of (elements_at s at)))
-      go None z x y = record { first = _; more = _; is = alone None z; kind = refl }
+      go Absent z x y = record { first = _; more = _; is = alone Absent z; kind = refl }
       go String z x y = absurd (false≢true (sym y))
       go Number z x y = record { first = _; more = _; is = alone Number z; kind = refl }
       go Literal z x y = record { first = _; more = _; is = alone Literal z; kind = refl }
@@ -130,30 +129,26 @@ module _ {s : List ℕ} {at : ℕ} {h : Head} (t : HeadAt s at h) where
 
 -- ---- the members of an object
 
-module _ {s : List ℕ} {at : ℕ} {m : MemberHead} (t : MemberAt s at m) where
-  members_by : (b : Bool) → m.there ≡ b → members_at s at ≡ member_by b s m.name m.next
-  members_by b q = t.is ∙ ap (λ (x : Bool). member_by x s m.name m.next) q
+pub members_none : {s : List ℕ} {at : ℕ} → MemberAt s at None → parameters_at s at ≡ []
+unfolding parameters_at member_list
+members_none t = ap member_list t.is
 
-  pub members_none : m.there ≡ false → parameters_at s at ≡ []
+module _ {s : List ℕ} {at : ℕ} {m : MemberHead} (t : MemberAt s at (Some m)) where
+  pub members_some : parameters_at s at ≡ member_of s m ∷ parameters_at s m.next
   unfolding parameters_at member_list
-  members_none q = ap member_list (members_by false q)
+  members_some = ap member_list t.is
 
-  module _ (q : m.there ≡ true) where
-    pub members_some : parameters_at s at ≡ member_of s m ∷ parameters_at s m.next
-    unfolding parameters_at member_list
-    members_some = ap member_list (members_by true q)
+  pub member_taken : Taken s at m.name m.next
+  member_taken = t.takes
 
-    pub member_taken : Taken s at m.name m.next
-    member_taken = subst (λ (b : Bool). MemberTakes b s at m.name m.next) q t.takes
+  pub member_inside : m.name < length s
+  member_inside = omega (arith, t.takes.some, t.takes.inside)
 
-    pub member_inside : m.name < length s
-    member_inside = omega (arith, member_taken.some, member_taken.inside)
+  pub member_fits : length s * 1 < 2 ^ 63 → m.name < 2 ^ 63 - 1
+  member_fits h = omega (arith, t.takes.some, t.takes.inside)
 
-    pub member_fits : length s * 1 < 2 ^ 63 → m.name < 2 ^ 63 - 1
-    member_fits h = omega (arith, member_taken.some, member_taken.inside)
-
-    pub member_less : length s - m.next < length s - at
-    member_less = omega (arith, member_taken.onward, member_taken.some, member_taken.inside)
+  pub member_less : length s - m.next < length s - at
+  member_less = omega (arith, t.takes.onward, t.takes.some, t.takes.inside)
 
 -- ---- a walk over members
 
@@ -164,9 +159,9 @@ module _ {A : Type 0} (f : List Member → A) (s : List ℕ) where
   pub walking_start : (from : ℕ) → Walking f s from from
   walking_start from = record { is = refl }
 
-module _ {A : Type 0} {f : List Member → A} {s : List ℕ} {from at : ℕ} {m : MemberHead} (w : Walking f s from at) (t : MemberAt s at m) where
-  pub walk_none : m.there ≡ false → f (parameters_at s from) ≡ f []
-  walk_none q = w.is ∙ ap f (members_none t q)
+module _ {A : Type 0} {f : List Member → A} {s : List ℕ} {from at : ℕ} (w : Walking f s from at) where
+  pub walk_none : MemberAt s at None → f (parameters_at s from) ≡ f []
+  walk_none t = w.is ∙ ap f (members_none t)
 
-  pub walk_some : m.there ≡ true → f (parameters_at s from) ≡ f (member_of s m ∷ parameters_at s m.next)
-  walk_some q = w.is ∙ ap f (members_some t q)
+  pub walk_some : {m : MemberHead} → MemberAt s at (Some m) → f (parameters_at s from) ≡ f (member_of s m ∷ parameters_at s m.next)
+  walk_some t = w.is ∙ ap f (members_some t)

@@ -3,13 +3,12 @@
 --     encodes_.., good_..     for code
 --     read_member, members-read    what can be read, by values
 --     good_is                 what `parameters_good` asks for
-use Rattle.std.specs.Prelude.{◌≡◌, Bool, not, ℕ, ◌≤◌, eqb}
+use Rattle.std.specs.Prelude.{◌≡◌, Bool, not, ℕ, ◌≤◌, eqb, Option, None, Some}
 use Rattle.std.proofs.Math.Path.{refl, sym}
 use Rattle.std.proofs.Common.{ap, ◌∙◌, rules, eq-eqb, ne_eqb}
 use Rattle.std.proofs.Math.Bool.{true, false}
 use Rattle.std.proofs.lemmas.Bool.{false≢true}
 use mathlib.Core.List.{List, [], ◌∷◌}
-use Rattle.std.proofs.Math.Option.{Option, none, some}
 use Rattle.octets.specs.Pick.{pick, ◌and◌, ◌or◌}
 use Rattle.octets.specs.laws.Pick.{and_no_right}
 use Rattle.octets.specs.Class.{upper}
@@ -61,19 +60,19 @@ module _ (ed : Edition) (row : Row) (t : ℕ) where
     unfolding sound_by ◌and◌
     sound_values h g = g ∙ rw (placed, ← f, h)
 
-  module _ {s : List ℕ} {from at : ℕ} {m : MemberHead} (w : Walking (every (is_sound ed row t)) s from at) (u : MemberAt s at m) where
-    pub sounds_all : m.there ≡ false → true ≡ every (is_sound ed row t) (parameters_at s from)
+  module _ {s : List ℕ} {from at : ℕ} (w : Walking (every (is_sound ed row t)) s from at) where
+    pub sounds_all : MemberAt s at None → true ≡ every (is_sound ed row t) (parameters_at s from)
     unfolding every
-    sounds_all q = sym (walk_none w u q)
+    sounds_all u = sym (walk_none w u)
 
-    module _ (q : m.there ≡ true) {b : Bool} (e : b ≡ sound_by ed row t (string_at s m.name) (given_at s m.next)) where
+    module _ {m : MemberHead} (u : MemberAt s at (Some m)) {b : Bool} (e : b ≡ sound_by ed row t (string_at s m.name) (given_at s m.next)) where
       pub sounds_more : b ≡ true → Walking (every (is_sound ed row t)) s from m.next
       unfolding every given_at ◌and◌
-      sounds_more r = record { is = walk_some w u q ∙ rw (← e, r) }
+      sounds_more r = record { is = walk_some w u ∙ rw (← e, r) }
 
       pub sounds_not : b ≡ false → false ≡ every (is_sound ed row t) (parameters_at s from)
       unfolding every given_at ◌and◌
-      sounds_not r = sym (walk_some w u q ∙ rw (← e, r))
+      sounds_not r = sym (walk_some w u ∙ rw (← e, r))
 
   module _ (s : List ℕ) (from : ℕ) {a : Bool} (e : a ≡ distinct (names_at s from)) where
     pub good_again : a ≡ false → false ≡ good_by ed row t (parameters_at s from)
@@ -103,16 +102,16 @@ encodes_other {t} ms h = rw (ne_eqb t 0 h)
 
 one_read : {B : Type 0} (o : Option B) (u : Option (List B)) {z : Bool} → is_read u ≡ z → is_read (and_then o (λ b. cons_read b u)) ≡ (is_read o and z)
 unfolding is_read and_then cons_read ◌and◌
-one_read none u e = refl
-one_read (some b) none e = e
-one_read (some b) (some r) e = e
+one_read None u e = refl
+one_read (Some b) None e = e
+one_read (Some b) (Some r) e = e
 
 pub each_read : {A B : Type 0} (f : A → Option B) (l : List A) → is_read (read_each f l) ≡ every (λ a. is_read (f a)) l
 unfolding read_each every is_read
 each_read f [] = refl
 each_read f (a ∷ l) = one_read (f a) (read_each f l) (each_read f l)
 
-each_amount : {A B : Type 0} (listed : Bool) (f : A → Option B) (l : List A) (r : List B) → read_each f l ≡ some r → is_amount listed r ≡ is_amount listed l
+each_amount : {A B : Type 0} (listed : Bool) (f : A → Option B) (l : List A) (r : List B) → read_each f l ≡ Some r → is_amount listed r ≡ is_amount listed l
 unfolding read_each
 each_amount listed f [] r h = let z : [] ≡ r = cc in rw (← z)
 each_amount listed f (a ∷ l) r h =
@@ -161,8 +160,8 @@ read_parameter_lem m = rw (at_row m, listed_row m) (go (read_each (read_string (
     go : (o : Option (List Value)) → read_each (read_string (row_at (place_of (upper m.name) parameter_names))) (or_alone m.value) ≡ o →
         is_read (and_then o (λ vs. provided (is_amount (row_at (place_of (upper m.name) parameter_names)).listed vs) (parameter_of (upper m.name) vs)))
         ≡ (is_readable (row_at (place_of (upper m.name) parameter_names)) (or_alone m.value) and is_amount (row_at (place_of (upper m.name) parameter_names)).listed (or_alone m.value))
-    go none e = rw (← (each_read (read_string (row_at (place_of (upper m.name) parameter_names))) (or_alone m.value)), e)
-    go (some vs) e =
+    go None e = rw (← (each_read (read_string (row_at (place_of (upper m.name) parameter_names))) (or_alone m.value)), e)
+    go (Some vs) e =
         rw (← (each_read (read_string (row_at (place_of (upper m.name) parameter_names))) (or_alone m.value)), e)
         (tested (is_amount (row_at (place_of (upper m.name) parameter_names)).listed vs) _ ∙ each_amount (row_at (place_of (upper m.name) parameter_names)).listed (read_string (row_at (place_of (upper m.name) parameter_names))) (or_alone m.value) vs e)
 
@@ -222,8 +221,8 @@ module _ (ed : Edition) (row : Row) (t : ℕ) (w : List ℕ) (h : row ≡ proper
       encoded r = find (read_each read_parameter ms) refl (each_read read_parameter ms ∙ r)
         where
           find : (o : Option (List Parameter)) → read_each read_parameter ms ≡ o → is_read o ≡ true → any_one is_encoded ms ≡ any_one is_base64_encoding (read_or [] o)
-          find none e z = absurd (false≢true z)
-          find (some ps) e z = sym (encoding_is ms ps e)
+          find None e z = absurd (false≢true z)
+          find (Some ps) e z = sym (encoding_is ms ps e)
 
       go : (d r p s b x y : Bool) → (r ≡ true → x ≡ y) → (d and (r and p and s) and (not b or x)) ≡ (d and r and p and s and (not b or y))
       go false r p s b x y f = refl

@@ -3,12 +3,11 @@
 --     truth_.., typed_.., chosen_..    one value
 --     plain_.., spelled_.., string_..  what an edition can spell
 --     all_.., amount_.., values_..     all values
-use Rattle.std.specs.Prelude.{◌≡◌, Bool, List, ℕ, ◌-◌, ◌*◌, ◌<◌, eqb, length}
+use Rattle.std.specs.Prelude.{◌≡◌, Bool, List, ℕ, ◌-◌, ◌*◌, ◌<◌, eqb, length, Option, None, Some, is_some}
 use Rattle.std.proofs.Math.Path.{refl, sym, ap}
 use Rattle.std.proofs.Common.{◌∙◌, arith, rules}
 use Rattle.std.proofs.Math.Bool.{true, false}
 use Rattle.std.proofs.lemmas.Bool.{false≢true}
-use Rattle.std.proofs.Math.Option.{Option, none, some}
 use borrow.Author.Tests.{eq-eqb, ne_eqb}
 use Rattle.octets.specs.Ascii.{ascii}
 use Rattle.octets.specs.Pick.{pick, ◌and◌, ◌or◌}
@@ -24,7 +23,8 @@ use Rattle.schema.specs.Types.{type_place, same_type}
 use Rattle.schema.specs.laws.Types.{place_type}
 use Rattle.schema.specs.Parameters.{ParameterRow}
 use Rattle.schema.specs.Numbers.{type_at, parameter_at}
-use Rattle.schema.specs.Sets.{is_word_of, parameter_words_at}
+use Rattle.schema.specs.Sets.{is_word_of, parameter_words_at, word_in}
+use Rattle.schema.specs.laws.Sets.{word_yes, word_no}
 use Rattle.edition.specs.declared.Edition.{Edition}
 use Rattle.edition.specs.declared.Edition.TheVariants.{Rfc5545, Rfc6868}
 use Rattle.values.specs.ReadValue.{read_value}
@@ -68,7 +68,7 @@ pub ruleset holding = (holding_start, holding_end, holding_here, holding_more, h
 
 -- ---- a word of a closed set, or a value of the type
 
-tested : (b : Bool) (v : Value) → b ≡ is_read (pick b (some v) none)
+tested : (b : Bool) (v : Value) → b ≡ is_read (pick b (Some v) None)
 unfolding is_read pick
 tested true v = refl
 tested false v = refl
@@ -91,12 +91,12 @@ module _ (q : ℕ) (l : List ℕ) {t : ℕ} (i : t ≡ type_place (parameter_at 
 
   pub typed_any : t ≡ 14 → true ≡ is_read (read_typed (row_at q) l)
   unfolding row_at is_read same_type
-  typed_any k = ap is_read (sym (pick_yes _ (some (unknown l)) _ (is_type 14 k)))
+  typed_any k = ap is_read (sym (pick_yes _ (Some (unknown l)) _ (is_type 14 k)))
 
   module _ (k : t ≡ 14 → ⊥) where
-    later : (o : Option Value) → is_read o ≡ is_read (pick (same_type (parameter_at q).type UNKNOWN) (some (unknown l)) o)
+    later : (o : Option Value) → is_read o ≡ is_read (pick (same_type (parameter_at q).type UNKNOWN) (Some (unknown l)) o)
     unfolding same_type
-    later o = ap is_read (sym (pick_no _ (some (unknown l)) o (no_type 14 k)))
+    later o = ap is_read (sym (pick_no _ (Some (unknown l)) o (no_type 14 k)))
 
     pub typed_truth : {b : Bool} → t ≡ 1 → b ≡ is_read (read_truth l) → b ≡ is_read (read_typed (row_at q) l)
     unfolding row_at same_type
@@ -110,22 +110,29 @@ module _ (q : ℕ) (l : List ℕ) {t : ℕ} (i : t ≡ type_place (parameter_at 
         ∙ ap is_read (sym (pick_no _ (read_truth l) (read_value xcal (parameter_at q).type l) (no_type 1 m)))
         ∙ later _
 
+pub word_told : {r : Option ℕ} (o : Option (List (List ℕ))) (l : List ℕ) → r ≡ word_in o l → {b : Bool} → b ≡ is_some r → b ≡ is_word_of o l
+word_told {r} o l e f = f ∙ go r e
+  where
+    go : (r : Option ℕ) → r ≡ word_in o l → is_some r ≡ is_word_of o l
+    go None e = word_no o l e refl
+    go (Some i) e = word_yes o l e refl
+
 module _ (q : ℕ) (l : List ℕ) {a : Bool} (e : a ≡ is_read (parameter_words_at q)) where
   pub chosen_word : {r : Bool} → a ≡ true → r ≡ is_word_of (parameter_words_at q) l → r ≡ is_read (read_word_in (row_at q).words (row_at q).type l)
   unfolding row_at is_read
   chosen_word {r} h p = go (parameter_words_at q) (sym e ∙ h) p
     where
       go : (o : Option (List (List ℕ))) → is_read o ≡ true → r ≡ is_word_of o l → r ≡ is_read (read_word_in o (parameter_at q).type l)
-      go none k w = absurd (false≢true k)
-      go (some ws) k w = w ∙ tested (is_one_of l ws) _
+      go None k w = absurd (false≢true k)
+      go (Some ws) k w = w ∙ tested (is_one_of l ws) _
 
   pub chosen_typed : {r : Bool} → a ≡ false → r ≡ is_read (read_typed (row_at q) l) → r ≡ is_read (read_word_in (row_at q).words (row_at q).type l)
   unfolding row_at is_read
   chosen_typed {r} h p = go (parameter_words_at q) (sym e ∙ h)
     where
       go : (o : Option (List (List ℕ))) → is_read o ≡ false → r ≡ is_read (read_word_in o (parameter_at q).type l)
-      go none k = p
-      go (some ws) k = absurd (false≢true (sym k))
+      go None k = p
+      go (Some ws) k = absurd (false≢true (sym k))
 
 -- ---- what an edition can spell
 

@@ -5,14 +5,12 @@
 --     parameter_put, members_next, members_over    parameters
 --     reads_..                             the walk that asks whether all can be read
 --     parameters_put, parameters_unread    what the canonical text has
-use Rattle.std.specs.Prelude.{◌≡◌, Bool, ℕ, ◌*◌, ◌^◌, ◌<◌, length}
+use Rattle.std.specs.Prelude.{◌≡◌, Bool, ℕ, ◌*◌, ◌^◌, ◌<◌, length, Option, None, Some, option_map}
 use Rattle.std.proofs.Math.Path.{refl, sym, subst}
 use Rattle.std.proofs.Common.{ap, ◌∙◌, rules}
 use Rattle.std.proofs.Math.Bool.{true, false}
 use Rattle.std.proofs.lemmas.Bool.{false≢true}
 use mathlib.Core.List.{List, [], ◌∷◌, map}
-use Rattle.std.proofs.Math.Option
-use Rattle.std.proofs.Math.Option.{Option, none, some}
 use Rattle.octets.specs.Ascii.{ascii}
 use Rattle.octets.specs.Pick.{pick, ◌and◌, ◌or◌}
 use Rattle.octets.specs.laws.Pick.{or_take, or_skip}
@@ -160,14 +158,14 @@ module _ (ed : Edition) where
   parameter_put {d} {e} {f} {o} {a} {n} {q} {l} w vs i h x y =
       subst (λ (z : List ℕ). Put d e o a (opening (upper z))) i x ▷ subst (λ (k : ℕ). Put e f a n (list_shown ed (row_at k) false vs)) (h ∙ rw i) y
 
-  module _ {d₀ : List ℕ} {at₀ : ℕ} {all d : List ℕ} {at : ℕ} {s : List ℕ} {c : ℕ} {m : MemberHead} (t : Emits d₀ at₀ all d at (members_shown ed (parameters_at s c))) (u : MemberAt s c m) where
-    pub members_next : {e : List ℕ} {k : ℕ} → m.there ≡ true → Put d e at k (member_shown ed (string_at s m.name) (given_at s m.next)) → Emits d₀ at₀ all e k (members_shown ed (parameters_at s m.next))
+  module _ {d₀ : List ℕ} {at₀ : ℕ} {all d : List ℕ} {at : ℕ} {s : List ℕ} {c : ℕ} (t : Emits d₀ at₀ all d at (members_shown ed (parameters_at s c))) where
+    pub members_next : {m : MemberHead} → MemberAt s c (Some m) → {e : List ℕ} {k : ℕ} → Put d e at k (member_shown ed (string_at s m.name) (given_at s m.next)) → Emits d₀ at₀ all e k (members_shown ed (parameters_at s m.next))
     unfolding members_shown given_at
-    members_next h p = emits_more t _ (ap (members_shown ed) (members_some u h)) p
+    members_next u p = emits_more t _ (ap (members_shown ed) (members_some u)) p
 
-    pub members_over : m.there ≡ false → Put d₀ d at₀ at all
+    pub members_over : MemberAt s c None → Put d₀ d at₀ at all
     unfolding members_shown
-    members_over h = emits_done t (ap (members_shown ed) (members_none u h))
+    members_over u = emits_done t (ap (members_shown ed) (members_none u))
 
 -- ---- what can be read
 
@@ -175,19 +173,19 @@ pub read_by : {n l : List ℕ} {q : ℕ} {r : Bool} (vs : List Json) → l ≡ n
 unfolding is_read_by
 read_by vs i h e = e ∙ rw (h, i)
 
-module _ {s : List ℕ} {from at : ℕ} {m : MemberHead} (w : Walking (every is_read_member) s from at) (t : MemberAt s at m) where
-  pub reads_all : m.there ≡ false → true ≡ every is_read_member (parameters_at s from)
+module _ {s : List ℕ} {from at : ℕ} (w : Walking (every is_read_member) s from at) where
+  pub reads_all : MemberAt s at None → true ≡ every is_read_member (parameters_at s from)
   unfolding every
-  reads_all q = sym (walk_none w t q)
+  reads_all t = sym (walk_none w t)
 
-  module _ (q : m.there ≡ true) {b : Bool} (e : b ≡ is_read_by (string_at s m.name) (given_at s m.next)) where
+  module _ {m : MemberHead} (t : MemberAt s at (Some m)) {b : Bool} (e : b ≡ is_read_by (string_at s m.name) (given_at s m.next)) where
     pub reads_more : b ≡ true → Walking (every is_read_member) s from m.next
     unfolding every given_at ◌and◌
-    reads_more r = record { is = walk_some w t q ∙ rw (← e, r) }
+    reads_more r = record { is = walk_some w t ∙ rw (← e, r) }
 
     pub reads_not : b ≡ false → false ≡ every is_read_member (parameters_at s from)
     unfolding every given_at ◌and◌
-    reads_not r = sym (walk_some w t q ∙ rw (← e, r))
+    reads_not r = sym (walk_some w t ∙ rw (← e, r))
 
 pub ruleset readings = (walking_start, reads_all, reads_more, reads_not, member_inside, member_less, rules)
 
@@ -195,22 +193,22 @@ pub ruleset readings = (walking_start, reads_all, reads_more, reads_not, member_
 
 -- what the schema's parameters take: words, or one of five types whose characters are kept
 abbrev usual : Option (List (List ℕ)) → ValueType → Bool
-usual (some ws) t = true
-usual none BINARY = false
-usual none BOOLEAN = true
-usual none CAL-ADDRESS = true
-usual none DATE = false
-usual none DATE-TIME = false
-usual none DURATION = false
-usual none FLOAT = false
-usual none INTEGER = false
-usual none PERIOD = false
-usual none RECUR = false
-usual none TEXT = true
-usual none TIME = false
-usual none URI = true
-usual none UTC-OFFSET = false
-usual none UNKNOWN = true
+usual (Some ws) t = true
+usual None BINARY = false
+usual None BOOLEAN = true
+usual None CAL-ADDRESS = true
+usual None DATE = false
+usual None DATE-TIME = false
+usual None DURATION = false
+usual None FLOAT = false
+usual None INTEGER = false
+usual None PERIOD = false
+usual None RECUR = false
+usual None TEXT = true
+usual None TIME = false
+usual None URI = true
+usual None UTC-OFFSET = false
+usual None UNKNOWN = true
 
 abbrev is_usual : ParameterRow → Bool
 is_usual r = usual r.words r.type
@@ -224,38 +222,38 @@ unfolding row_at
 row_usual q = at_passes is_usual unrecognised_parameter parameter_table q rows_usual refl
 
 module _ (l : List ℕ) (v : Value) where
-  kept : (t : Bool) (make : List ℕ → Value) → param_chars (make l) ≡ l → Option.map make (pick t (some l) none) ≡ some v → param_chars v ≡ l
+  kept : (t : Bool) (make : List ℕ → Value) → param_chars (make l) ≡ l → option_map make (pick t (Some l) None) ≡ Some v → param_chars v ≡ l
   unfolding pick
   kept true make k e = let y : make l ≡ v = cc in rw (← y) k
   kept false make k e = none-some e
 
-  truth : read_truth l ≡ some v → param_chars v ≡ l
+  truth : read_truth l ≡ Some v → param_chars v ≡ l
   unfolding pick write_value read_or octets_compute
   truth h = go (same l (ascii "TRUE")) refl (same l (ascii "FALSE")) refl h
     where
-      go : (a : Bool) → same l (ascii "TRUE") ≡ a → (b : Bool) → same l (ascii "FALSE") ≡ b → pick a (some (boolean true)) (provided b (boolean false)) ≡ some v → param_chars v ≡ l
+      go : (a : Bool) → same l (ascii "TRUE") ≡ a → (b : Bool) → same l (ascii "FALSE") ≡ b → pick a (Some (boolean true)) (provided b (boolean false)) ≡ Some v → param_chars v ≡ l
       go true e b f k = let y : boolean true ≡ v = cc in rw (← y) (sym (same_true l (ascii "TRUE") e))
       go false e true f k = let y : boolean false ≡ v = cc in rw (← y) (sym (same_true l (ascii "FALSE") f))
       go false e false f k = none-some k
 
-  chars_kept : (o : Option (List (List ℕ))) (t : ValueType) → usual o t ≡ true → read_word_in o t l ≡ some v → param_chars v ≡ l
+  chars_kept : (o : Option (List (List ℕ))) (t : ValueType) → usual o t ≡ true → read_word_in o t l ≡ Some v → param_chars v ≡ l
   unfolding read_value write_value same_type pick read_or
-  chars_kept (some ws) t u h = let z = provided-some (is_one_of l ws) (text l) v h in rw (← z.1)
-  chars_kept none BINARY u h = absurd (false≢true u)
-  chars_kept none BOOLEAN u h = truth h
-  chars_kept none CAL-ADDRESS u h = kept (is_uri l) cal_address refl h
-  chars_kept none DATE u h = absurd (false≢true u)
-  chars_kept none DATE-TIME u h = absurd (false≢true u)
-  chars_kept none DURATION u h = absurd (false≢true u)
-  chars_kept none FLOAT u h = absurd (false≢true u)
-  chars_kept none INTEGER u h = absurd (false≢true u)
-  chars_kept none PERIOD u h = absurd (false≢true u)
-  chars_kept none RECUR u h = absurd (false≢true u)
-  chars_kept none TEXT u h = kept true text refl h
-  chars_kept none TIME u h = absurd (false≢true u)
-  chars_kept none URI u h = kept (is_uri l) uri refl h
-  chars_kept none UTC-OFFSET u h = absurd (false≢true u)
-  chars_kept none UNKNOWN u h = let y : unknown l ≡ v = cc in rw (← y)
+  chars_kept (Some ws) t u h = let z = provided-some (is_one_of l ws) (text l) v h in rw (← z.1)
+  chars_kept None BINARY u h = absurd (false≢true u)
+  chars_kept None BOOLEAN u h = truth h
+  chars_kept None CAL-ADDRESS u h = kept (is_uri l) cal_address refl h
+  chars_kept None DATE u h = absurd (false≢true u)
+  chars_kept None DATE-TIME u h = absurd (false≢true u)
+  chars_kept None DURATION u h = absurd (false≢true u)
+  chars_kept None FLOAT u h = absurd (false≢true u)
+  chars_kept None INTEGER u h = absurd (false≢true u)
+  chars_kept None PERIOD u h = absurd (false≢true u)
+  chars_kept None RECUR u h = absurd (false≢true u)
+  chars_kept None TEXT u h = kept true text refl h
+  chars_kept None TIME u h = absurd (false≢true u)
+  chars_kept None URI u h = kept (is_uri l) uri refl h
+  chars_kept None UTC-OFFSET u h = absurd (false≢true u)
+  chars_kept None UNKNOWN u h = let y : unknown l ≡ v = cc in rw (← y)
 
 -- values with commas between them; before each of them, where they are later ones
 abbrev commas : Bool → List (List ℕ) → List ℕ
@@ -267,11 +265,11 @@ module _ (ed : Edition) where
   abbrev value_text : ParameterRow → Value → List ℕ
   value_text r v = write_param_value (encoded_value ed (record { quoted = r.quoted or needs_quotes (param_chars v); chars = param_chars v }))
 
-  shown_is : (q : ℕ) (l : List ℕ) (v : Value) → read_word_in (row_at q).words (row_at q).type l ≡ some v → plain_shown ed (row_at q) l ≡ value_text (row_at q) v
+  shown_is : (q : ℕ) (l : List ℕ) (v : Value) → read_word_in (row_at q).words (row_at q).type l ≡ Some v → plain_shown ed (row_at q) l ≡ value_text (row_at q) v
   unfolding plain_shown quoted_at
   shown_is q l v h = rw (chars_kept l v (row_at q).words (row_at q).type (row_usual q) h)
 
-  list_is : (q : ℕ) (later : Bool) (vs : List Json) (xs : List Value) → read_each (read_string (row_at q)) vs ≡ some xs → list_shown ed (row_at q) later vs ≡ commas later (map (value_text (row_at q)) xs)
+  list_is : (q : ℕ) (later : Bool) (vs : List Json) (xs : List Value) → read_each (read_string (row_at q)) vs ≡ Some xs → list_shown ed (row_at q) later vs ≡ commas later (map (value_text (row_at q)) xs)
   unfolding read_each list_shown each_after joined_by is_read read_or item_shown pick ◌⊕◌
   list_is q true [] xs h = let z : [] ≡ xs = cc in rw (← z)
   list_is q false [] xs h = let z : [] ≡ xs = cc in rw (← z)
@@ -281,7 +279,7 @@ module _ (ed : Edition) where
       let c = and_then-some (as_string v) (read_word_in (row_at q).words (row_at q).type) a.0 a.1 in
       go later c.0 c.1 a.0 (shown_is q c.0 a.0 c.2) b.0 b.2 (list_is q true vs b.0 b.1)
     where
-      go : (k : Bool) (l : List ℕ) → as_string v ≡ some l → (x : Value) → plain_shown ed (row_at q) l ≡ value_text (row_at q) x → (ys : List Value) → x ∷ ys ≡ xs →
+      go : (k : Bool) (l : List ℕ) → as_string v ≡ Some l → (x : Value) → plain_shown ed (row_at q) l ≡ value_text (row_at q) x → (ys : List Value) → x ∷ ys ≡ xs →
           list_shown ed (row_at q) true vs ≡ each_after 44 (map (value_text (row_at q)) ys) → list_shown ed (row_at q) k (v ∷ vs) ≡ commas k (map (value_text (row_at q)) xs)
       go true l e x f ys g i = rw (e, ← g, i, f)
       go false l e x f ys g i = rw (e, ← g, i, f)
@@ -297,7 +295,7 @@ module _ (ed : Edition) where
   texts_are r [] = refl
   texts_are r (x ∷ xs) = rw (texts_are r xs)
 
-  member_is : (m : Member) (p : Parameter) → read_parameter m ≡ some p → write_parameter (encoded_parameter ed (raw_of p)) ≡ member_shown ed m.name (or_alone m.value)
+  member_is : (m : Member) (p : Parameter) → read_parameter m ≡ Some p → write_parameter (encoded_parameter ed (raw_of p)) ≡ member_shown ed m.name (or_alone m.value)
   unfolding read_parameter member_shown write_parameter row_at
   member_is m p h =
       let a = and_then-some (read_each (λ v. and_then (as_string v) (read_characters (upper m.name))) (or_alone m.value)) (λ vs. provided (is_amount (is_listed_parameter (upper m.name)) vs) (parameter_of (upper m.name) vs)) p h in
@@ -307,14 +305,14 @@ module _ (ed : Edition) where
       by_row : (xs : List Value) (r : ParameterRow) → parameter_row (upper m.name) ≡ r → map write_param_value (map (encoded_value ed) (map (param_value_of (upper m.name)) xs)) ≡ map (value_text r) xs
       by_row xs r e = rw (← e) (texts_are (parameter_row (upper m.name)) xs)
 
-      go : (xs : List Value) → read_each (read_string (row_at (place_of (upper m.name) parameter_names))) (or_alone m.value) ≡ some xs →
+      go : (xs : List Value) → read_each (read_string (row_at (place_of (upper m.name) parameter_names))) (or_alone m.value) ≡ Some xs →
           59 ∷ (upper m.name ⊕ 61 ∷ joined_by 44 (map write_param_value (map (encoded_value ed) (map (param_value_of (upper m.name)) xs))))
           ≡ opening (upper m.name) ⊕ list_shown ed (row_at (place_of (upper m.name) parameter_names)) false (or_alone m.value)
       go xs e =
           rw (by_row xs (parameter_at (place_of (upper m.name) parameter_names)) (parameter_place (upper m.name)), list_is (place_of (upper m.name) parameter_names) false (or_alone m.value) xs e)
           (sym (opened (upper m.name) (joined_by 44 (map (value_text (parameter_at (place_of (upper m.name) parameter_names))) xs))))
 
-  members_are : (ms : List Member) (ps : List Parameter) → read_each read_parameter ms ≡ some ps → joined (map write_parameter (map (encoded_parameter ed) (map raw_of ps))) ≡ members_shown ed ms
+  members_are : (ms : List Member) (ps : List Parameter) → read_each read_parameter ms ≡ Some ps → joined (map write_parameter (map (encoded_parameter ed) (map raw_of ps))) ≡ members_shown ed ms
   unfolding read_each members_shown joined
   members_are [] ps h = let z : [] ≡ ps = cc in rw (← z)
   members_are (m ∷ ms) ps h =
@@ -340,13 +338,13 @@ module _ (ed : Edition) where
     parameters_put {d} {f} {o} {n} h p = go (read_parameters (member_list (members_at s from))) refl (sym read ∙ h)
       where
         go : (x : Option (List Parameter)) → read_parameters (member_list (members_at s from)) ≡ x → is_read x ≡ true → Put d f o n (joined (map write_parameter (map (encoded_parameter ed) (map raw_of (read_or [] x)))))
-        go none i k = absurd (false≢true k)
-        go (some ps) i k = rw (members_are (member_list (members_at s from)) ps i) p
+        go None i k = absurd (false≢true k)
+        go (Some ps) i k = rw (members_are (member_list (members_at s from)) ps i) p
 
     pub parameters_unread : {d : List ℕ} {o : ℕ} → a ≡ false → length d * 1 < 2 ^ 63 → Put d d o o (parameters_text (member_list (members_at s from)))
     unfolding is_read read_or joined
     parameters_unread {d} {o} h z = go (read_parameters (member_list (members_at s from))) (sym read ∙ h)
       where
         go : (x : Option (List Parameter)) → is_read x ≡ false → Put d d o o (joined (map write_parameter (map (encoded_parameter ed) (map raw_of (read_or [] x)))))
-        go none k = put_none d o z
-        go (some ps) k = absurd (false≢true (sym k))
+        go None k = put_none d o z
+        go (Some ps) k = absurd (false≢true (sym k))

@@ -4,15 +4,13 @@
 --     item_number, item_string        an item, by what its part has
 --     items_good, items_bad           several items;   part_array, part_alone: with an array or without
 --     place_found      the number of a name in the table of small letters
-use Rattle.std.specs.Prelude.{◌≡◌, Bool, ℕ, suc, ◌≤◌, eqb, length, get_or}
+use Rattle.std.specs.Prelude.{◌≡◌, Bool, ℕ, suc, ◌≤◌, eqb, length, get_or, Option, None, Some, is_some}
 use Rattle.std.proofs.Math.Path.{refl, sym}
 use Rattle.std.proofs.Common.{ap, ◌∙◌, rules}
 use Rattle.std.proofs.Math.Bool.{true, false}
 use Rattle.std.proofs.lemmas.Bool.{false≢true}
 use mathlib.Core.List.{List, [], ◌∷◌, map}
-use Rattle.std.proofs.Math.Option.{Option, none, some}
 use Rattle.std.proofs.Math.ListN.{get_or-map}
-use borrow.Author.Tests.{ne_eqb}
 use Rattle.octets.specs.Ascii.{ascii}
 use Rattle.octets.specs.Pick.{pick, ◌and◌}
 use Rattle.octets.specs.Class.{upper, lower}
@@ -31,19 +29,17 @@ use Rattle.recur.specs.Item.{read_form}
 use Rattle.recur.specs.Item as text
 use Rattle.recur.specs.Rule.{rule_part, is_amount}
 use Rattle.recur.specs.Fits.{item_read}
-use Rattle.recur.specs.laws.Fits.{part_at, beyond, provided_is, item_yes, item_no}
-use Rattle.recur.specs.declared.item.ItemRead.{ItemRead}
-use Rattle.recur.specs.declared.item.ItemRead.TheVariants.{Good, Bad}
+use Rattle.recur.specs.laws.Fits.{part_at, beyond, provided_is}
 use Rattle.recur.specs.laws.PieceLaws.{cons_read_lem}
 use Rattle.json_text.specs.Tree.{Json, first_of, element_list}
 use Rattle.json_text.specs.Kinds.{as_string, as_number}
 use Rattle.jcal.specs.Values.{item_text, read_item, read_items}
 use Rattle.read_json.specs.TreeAt.{elements_at}
 use Rattle.read_json.specs.Heads.{value_of_head, HeadAt, NextAt}
-use Rattle.read_json.specs.Kinds.{kind_number}
+use Rattle.read_json.specs.Kinds.{is_there, is_array}
 use Rattle.read_json.specs.declared.Head.{Head}
 use Rattle.read_jcal_value.specs.Elements.{string_of, number_of}
-use Rattle.read_jcal_value.specs.laws.Elements.{array_by, list_over, list_more, first_value, stands_head}
+use Rattle.read_jcal_value.specs.laws.Elements.{array_by, list_over, list_here, list_more, first_value, stands_head}
 use Rattle.read_jcal_value.specs.Items.{numbered, is_numbered, item_in, amounts, items_in, part_in, part_place}
 
 pub each_read : {A B : Type 0} (f : A → Option B) (l : List A) → is_read (read_each f l) ≡ every (λ a. is_read (f a)) l
@@ -59,8 +55,8 @@ numbered_at i =
     sym (get_or-map (λ (x : ℕ). eqb x 1) (0 ∷ 0 ∷ 1 ∷ 1 ∷ 1 ∷ 1 ∷ 1 ∷ 0 ∷ 1 ∷ 1 ∷ 1 ∷ 1 ∷ 1 ∷ 0 ∷ []) i 0)
     ∙ get_or-map (λ (n : List ℕ). is_numbered (part_of n)) part_names i []
 
-no_part : (i : ℕ) → 14 ≤ i → part_of (get_or part_names i []) ≡ none
-no_part i h = part_at i ∙ beyond (map (λ (r : Part). some r) part_table) i h
+no_part : (i : ℕ) → 14 ≤ i → part_of (get_or part_names i []) ≡ None
+no_part i h = part_at i ∙ beyond (map (λ (r : Part). Some r) part_table) i h
 
 pub numbered_beyond : (i : ℕ) → 14 ≤ i → false ≡ is_numbered (part_of (get_or part_names i []))
 numbered_beyond i h = sym (rw (no_part i h))
@@ -84,18 +80,18 @@ form_string weekdaynum v h = refl
 by_number : (o : Option Part) (v : Json) → is_numbered o ≡ true →
     is_read (and_then o (λ r. read_item r v)) ≡ is_read (and_then (as_number v) (λ l. and_then o (λ (r : Part). read_form xcal r.form l)))
 unfolding and_then
-by_number none v h = absurd (false≢true h)
-by_number (some r) v h = rw (form_number r.form v h)
+by_number None v h = absurd (false≢true h)
+by_number (Some r) v h = rw (form_number r.form v h)
 
 by_string : (o : Option Part) (v : Json) → is_numbered o ≡ false →
     is_read (and_then o (λ r. read_item r v)) ≡ is_read (and_then (as_string v) (λ l. and_then o (λ (r : Part). read_form xcal r.form l)))
 unfolding and_then is_read
-by_string none v h = go (as_string v)
+by_string None v h = go (as_string v)
   where
-    go : (a : Option (List ℕ)) → false ≡ is_read {A = RuleItem} (and_then a (λ l. none))
-    go none = refl
-    go (some l) = refl
-by_string (some r) v h = rw (form_string r.form v h)
+    go : (a : Option (List ℕ)) → false ≡ is_read {A = RuleItem} (and_then a (λ l. None))
+    go None = refl
+    go (Some l) = refl
+by_string (Some r) v h = rw (form_string r.form v h)
 
 module _ (i : ℕ) (s : List ℕ) (h : Head) {b : Bool} (e : b ≡ is_numbered (part_of (get_or part_names i []))) {r : Bool} where
   pub item_number : b ≡ true → r ≡ is_read (and_then (number_of s h) (text.read_item xcal (get_or part_names i []))) → r ≡ item_in i (value_of_head s h)
@@ -109,17 +105,17 @@ module _ (i : ℕ) (s : List ℕ) (h : Head) {b : Bool} (e : b ≡ is_numbered (
 pub ruleset itemizing = (item_number, item_string, rules)
 
 -- what `read_item` answers
-module _ (i : ℕ) {b : Bool} {r : ItemRead} (e : r ≡ item_read i b) where
-  pub item_there : {n : ℕ} → r ≡ Good n → true ≡ b
-  item_there h = sym (item_yes i e h)
-
-  pub item_missing : r ≡ Bad → false ≡ b
-  item_missing h = sym (item_no i e h)
+pub item_told : (i : ℕ) {b : Bool} {r : Option ℕ} → r ≡ item_read i b → {c : Bool} → c ≡ is_some r → c ≡ b
+item_told i {b} e f = f ∙ ap is_some e ∙ go b
+  where
+    go : (b : Bool) → is_some (item_read i b) ≡ b
+    go true = refl
+    go false = refl
 
 -- ---- several items
 
 module _ (r : Part) where
-  amount_is : (vs : List Json) (is : List RuleItem) → read_each (read_item r) vs ≡ some is → is_amount r.listed is ≡ amounts r.listed vs
+  amount_is : (vs : List Json) (is : List RuleItem) → read_each (read_item r) vs ≡ Some is → is_amount r.listed is ≡ amounts r.listed vs
   unfolding read_each
   amount_is [] is h = let z : [] ≡ is = cc in rw (← z)
   amount_is (v ∷ vs) is h =
@@ -133,15 +129,15 @@ module _ (r : Part) where
     where
       go : (o : Option (List RuleItem)) → read_each (read_item r) vs ≡ o →
           is_read (and_then o (λ is. provided (is_amount r.listed is) (rule_part r.name is))) ≡ (is_read o and amounts r.listed vs)
-      go none q = refl
-      go (some is) q = provided_is (is_amount r.listed is) (rule_part r.name is) ∙ amount_is vs is q
+      go None q = refl
+      go (Some is) q = provided_is (is_amount r.listed is) (rule_part r.name is) ∙ amount_is vs is q
 
 items_by : (o : Option Part) (vs : List Json) →
     is_read (and_then o (λ r. read_items r vs)) ≡ (every (λ v. is_read (and_then o (λ r. read_item r v))) vs and amounts (is_listed o) vs)
 unfolding and_then is_read every ◌and◌
-items_by none [] = refl
-items_by none (v ∷ vs) = refl
-items_by (some r) vs = items_of r vs
+items_by None [] = refl
+items_by None (v ∷ vs) = refl
+items_by (Some r) vs = items_of r vs
 
 items_is : (i : ℕ) (vs : List Json) → items_in i vs ≡ (every (item_in i) vs and amounts (is_listed (part_of (get_or part_names i []))) vs)
 unfolding items_in item_in
@@ -160,32 +156,32 @@ pub ruleset several = (items_bad, items_good, rules)
 
 -- ---- how many
 
-module _ (l : Bool) {s : List ℕ} {at : ℕ} {h : Head} (t : HeadAt s at h) {c : ℕ} (e : c ≡ kind_number h.kind) where
-  pub amount_none : c ≡ 0 → false ≡ amounts l (element_list (elements_at s at))
+module _ (l : Bool) {s : List ℕ} {at : ℕ} {h : Head} (t : HeadAt s at h) {c : Bool} (e : c ≡ is_there h.kind) where
+  pub amount_none : c ≡ false → false ≡ amounts l (element_list (elements_at s at))
   amount_none z = rw (list_over t e z)
 
-  module _ (z : c ≡ 0 → ⊥) {n : ℕ} (d : NextAt s h n) {b : Bool} (f : b ≡ l) where
-    pub amount_any : b ≡ true → true ≡ amounts l (element_list (elements_at s at))
+  module _ (z : c ≡ true) {b : Bool} (f : b ≡ l) where
+    pub amount_any : b ≡ true → b ≡ amounts l (element_list (elements_at s at))
     unfolding pick
-    amount_any q = rw (list_more t e z d, ← f, q)
+    amount_any q = rw (list_here t e z, ← f, q)
 
-    pub amount_one : {r : Bool} → b ≡ false → r ≡ is_empty (element_list (elements_at s n)) → r ≡ amounts l (element_list (elements_at s at))
+    pub amount_one : {n : ℕ} → NextAt s h n → {r : Bool} → b ≡ false → r ≡ is_empty (element_list (elements_at s n)) → r ≡ amounts l (element_list (elements_at s at))
     unfolding pick
-    amount_one q g = rw (list_more t e z d, ← f, q) g
+    amount_one d q g = rw (list_more t e z d, ← f, q) g
 
 pub ruleset amounting = (amount_none, amount_any, amount_one, rules)
 
 -- ---- with an array or without
 
-module _ (i : ℕ) {s : List ℕ} {at : ℕ} {h : Head} (t : HeadAt s at h) {c : ℕ} (e : c ≡ kind_number h.kind) {r : Bool} where
-  pub part_array : c ≡ 4 → r ≡ items_in i (element_list (elements_at s h.next)) → r ≡ part_in i (first_of (elements_at s at))
+module _ (i : ℕ) {s : List ℕ} {at : ℕ} {h : Head} (t : HeadAt s at h) {c : Bool} (e : c ≡ is_array h.kind) {r : Bool} where
+  pub part_array : c ≡ true → r ≡ items_in i (element_list (elements_at s h.next)) → r ≡ part_in i (first_of (elements_at s at))
   unfolding part_in read_or pick
   part_array q g = rw (first_value t, array_by s h.place h.next h.kind, ← e, q) g
 
-  pub part_alone : (c ≡ 4 → ⊥) → r ≡ item_in i (value_of_head s h) → r ≡ part_in i (first_of (elements_at s at))
+  pub part_alone : c ≡ false → r ≡ item_in i (value_of_head s h) → r ≡ part_in i (first_of (elements_at s at))
   unfolding part_in read_or pick every ◌and◌
   part_alone q g =
-      rw (first_value t, array_by s h.place h.next h.kind, ← e, ne_eqb c 4 q)
+      rw (first_value t, array_by s h.place h.next h.kind, ← e, q)
       (g ∙ sym (items_is i (value_of_head s h ∷ []) ∙ one (is_listed (part_of (get_or part_names i []))) (item_in i (value_of_head s h))))
     where
       one : (l x : Bool) → ((x and true) and pick l true true) ≡ x

@@ -2,13 +2,12 @@
 --     recur_read       whether there is a rule
 --     part_as          a member by the number of its part
 --     Ruling           the invariant of the loop over members;   `search ruling`
-use Rattle.std.specs.Prelude.{◌≡◌, Bool, cond, ℕ, zero, suc, ◌-◌, ◌<◌, eqb, length, get_or}
+use Rattle.std.specs.Prelude.{◌≡◌, Bool, cond, ℕ, zero, suc, ◌-◌, ◌<◌, eqb, length, get_or, Option, None, Some}
 use Rattle.std.proofs.Math.Path.{refl, sym, ap}
 use Rattle.std.proofs.Common.{subst, ◌∙◌, arith, rules, eq-eqb, eqb-true}
 use Rattle.std.proofs.Math.Bool.{true, false, not}
 use Rattle.std.proofs.lemmas.Bool.{false≢true}
 use mathlib.Core.List.{List, [], ◌∷◌, map}
-use Rattle.std.proofs.Math.Option.{Option, none, some}
 use Rattle.bits.specs.Masks.{has}
 use Rattle.bits.specs.laws.Masks.{has_none}
 use Rattle.octets.specs.Ascii.{ascii}
@@ -34,21 +33,20 @@ use Rattle.json_text.specs.Tree.{Member, first_of, member_list}
 use Rattle.json_text.specs.Kinds.{or_alone}
 use Rattle.jcal.specs.Values.{read_item, read_items, read_part, read_recur}
 use Rattle.read_json.specs.TreeAt.{elements_at, members_at, string_at}
-use Rattle.read_json.specs.Pieces.{Taken}
-use Rattle.read_json.specs.MemberHeads.{member_by, MemberTakes, MemberAt}
+use Rattle.read_json.specs.MemberHeads.{MemberAt}
 use Rattle.read_json.specs.declared.MemberHead.{MemberHead}
 use Rattle.read_jcal_value.specs.Items.{items_in, part_in, part_place}
 use Rattle.read_jcal_value.specs.Members.{cap_name, place_in, has_place, each_part, is_whole, whole_in}
 
 -- ---- the part of a name
 
-nth_at : {A : Type 0} (l : List A) (k : ℕ) → nth l k ≡ get_or (map (λ (a : A). some a) l) k none
+nth_at : {A : Type 0} (l : List A) (k : ℕ) → nth l k ≡ get_or (map (λ (a : A). Some a) l) k None
 unfolding nth
 nth_at [] k = refl
 nth_at (a ∷ l) zero = refl
 nth_at (a ∷ l) (suc k) = nth_at l k
 
-nth_inside : {A : Type 0} (l : List A) (k : ℕ) (a : A) → nth l k ≡ some a → k < length l
+nth_inside : {A : Type 0} (l : List A) (k : ℕ) (a : A) → nth l k ≡ Some a → k < length l
 unfolding nth
 nth_inside [] k a h = none-some h
 nth_inside (x ∷ l) zero a h = omega arith
@@ -60,7 +58,7 @@ part_place_lem n = row_place (λ (r : Part). r.name) n part_table ∙ nth_at par
 -- ---- one member
 
 module _ (m : Member) where
-  none_there : is_read {A = RulePart} none ≡ is_read (and_then (part_of (get_or part_names 14 [])) (λ r. read_items r (or_alone m.value)))
+  none_there : is_read {A = RulePart} None ≡ is_read (and_then (part_of (get_or part_names 14 [])) (λ r. read_items r (or_alone m.value)))
   unfolding and_then
   none_there = rw (part_at 14)
 
@@ -68,17 +66,17 @@ module _ (m : Member) where
   unfolding part_place part_in items_in pick
   part_as = go (same m.name (lower m.name))
     where
-      go : (t : Bool) → is_read (pick t (and_then (part_of (upper m.name)) (λ r. read_items r (or_alone m.value))) none)
+      go : (t : Bool) → is_read (pick t (and_then (part_of (upper m.name)) (λ r. read_items r (or_alone m.value))) None)
           ≡ is_read (and_then (part_of (get_or part_names (pick t (place_of (upper m.name) part_names) 14) [])) (λ r. read_items r (or_alone m.value)))
       go true = rw (← (part_place_lem (upper m.name)))
       go false = none_there
 
   -- what is read
-  read_part_lem : (p : RulePart) → read_part m ≡ some p → (same m.name (lower m.name) ≡ true) × (p.part ≡ cap_name m) × (place_in m < 14)
+  read_part_lem : (p : RulePart) → read_part m ≡ Some p → (same m.name (lower m.name) ≡ true) × (p.part ≡ cap_name m) × (place_in m < 14)
   unfolding place_in pick
   read_part_lem p h = go (same m.name (lower m.name)) h
     where
-      go : (t : Bool) → pick t (and_then (part_of (cap_name m)) (λ r. read_items r (or_alone m.value))) none ≡ some p → (t ≡ true) × (p.part ≡ cap_name m) × (place_of (cap_name m) part_names < 14)
+      go : (t : Bool) → pick t (and_then (part_of (cap_name m)) (λ r. read_items r (or_alone m.value))) None ≡ Some p → (t ≡ true) × (p.part ≡ cap_name m) × (place_of (cap_name m) part_names < 14)
       go false k = none-some k
       go true k =
           let e = and_then-some (part_of (cap_name m)) (λ r. read_items r (or_alone m.value)) p k in
@@ -90,13 +88,13 @@ module _ (m : Member) where
           )
 
   module _ (h : is_read (read_part m) ≡ true) where
-    was : (p : RulePart) × (read_part m ≡ some p)
+    was : (p : RulePart) × (read_part m ≡ Some p)
     unfolding is_read
     was = go (read_part m) refl h
       where
-        go : (o : Option RulePart) → read_part m ≡ o → is_read o ≡ true → (p : RulePart) × (read_part m ≡ some p)
-        go none e k = absurd (false≢true k)
-        go (some p) e k = (p, e)
+        go : (o : Option RulePart) → read_part m ≡ o → is_read o ≡ true → (p : RulePart) × (read_part m ≡ Some p)
+        go None e k = absurd (false≢true k)
+        go (Some p) e k = (p, e)
 
     pub known : place_in m < 14
     known = (read_part_lem was.0 was.1).2
@@ -130,7 +128,7 @@ each_part_lem (m ∷ ms) = rw (cons_read_lem (read_part m) (read_each read_part 
 cons_same : {x y : List ℕ} {l m : List (List ℕ)} → x ≡ y → l ≡ m → x ∷ l ≡ y ∷ m
 cons_same p q = cc
 
-names_kept : (ms : List Member) (ps : List RulePart) → read_each read_part ms ≡ some ps → map name_of ps ≡ map cap_name ms
+names_kept : (ms : List Member) (ps : List RulePart) → read_each read_part ms ≡ Some ps → map name_of ps ≡ map cap_name ms
 unfolding read_each
 names_kept [] ps h = let z : [] ≡ ps = cc in rw (← z)
 names_kept (m ∷ ms) ps h =
@@ -143,7 +141,7 @@ unfolding row_of is_read is_one_of ◌or◌ pick
 has_named n [] = refl
 has_named n (p ∷ ps) = go (same n p.part) (has_named n ps)
   where
-    go : (t : Bool) → has_part n ps ≡ is_one_of n (map name_of ps) → is_read (pick t (some p) (row_of name_of n ps)) ≡ (t or is_one_of n (map name_of ps))
+    go : (t : Bool) → has_part n ps ≡ is_one_of n (map name_of ps) → is_read (pick t (Some p) (row_of name_of n ps)) ≡ (t or is_one_of n (map name_of ps))
     go true ih = refl
     go false ih = ih
 
@@ -161,8 +159,8 @@ recur_read ms = mapped recur (and_then (read_each read_part ms) ruled) ∙ rw (e
   where
     go : (o : Option (List RulePart)) → read_each read_part ms ≡ o →
         is_read (and_then o ruled) ≡ ((is_read o and distinct (map cap_name ms)) and is_whole ms)
-    go none e = refl
-    go (some ps) e =
+    go None e = refl
+    go (Some ps) e =
         let h = names_kept ms ps e in
         provided_is (distinct (map name_of ps) and is_complete ps) (in_order part_names ps) ∙ rw (h, whole_is ms ps h)
 
@@ -260,31 +258,25 @@ pub record Ruling (s : List ℕ) (from seen c : ℕ) : Type 0 where
 pub ruling_start : (s : List ℕ) (from : ℕ) → Ruling s from 0 from
 ruling_start s from = record { noting = none_noted (member_list (members_at s from)) }
 
-module _ {s : List ℕ} {c : ℕ} {m : MemberHead} (t : MemberAt s c m) where
-  taken : m.there ≡ true → Taken s c m.name m.next
-  taken y = subst (λ (b : Bool). MemberTakes b s c m.name m.next) y t.takes
-
-  member_here : m.there ≡ true → member_list (members_at s c) ≡ member_of s m.name m.next ∷ member_list (members_at s m.next)
+module _ {s : List ℕ} {c : ℕ} where
+  pub ruling_end : MemberAt s c None → {from seen : ℕ} → Ruling s from seen c → {r : Bool} → r ≡ whole_in seen → r ≡ is_read (read_recur (member_list (members_at s from)))
   unfolding member_list
-  member_here y = ap member_list (t.is ∙ ap (λ (b : Bool). member_by b s m.name m.next) y)
+  ruling_end t {from} w e = all_noted (member_list (members_at s from)) (rw (ap member_list t.is) at w.noting) e
 
-  member_over : m.there ≡ false → member_list (members_at s c) ≡ []
-  unfolding member_list
-  member_over y = ap member_list (t.is ∙ ap (λ (b : Bool). member_by b s m.name m.next) y)
+  module _ {m : MemberHead} (t : MemberAt s c (Some m)) where
+    member_here : member_list (members_at s c) ≡ member_of s m.name m.next ∷ member_list (members_at s m.next)
+    unfolding member_list
+    member_here = ap member_list t.is
 
-  pub member_place : m.there ≡ true → m.name < length s
-  member_place y = let k = taken y in omega (arith, k.some, k.inside)
+    pub member_place : m.name < length s
+    member_place = omega (arith, t.takes.some, t.takes.inside)
 
-  pub member_less : m.there ≡ true → length s - m.next < length s - c
-  member_less y = let k = taken y in omega (arith, k.onward, k.some, k.inside)
+    pub member_less : length s - m.next < length s - c
+    member_less = omega (arith, t.takes.onward, t.takes.some, t.takes.inside)
 
-  module _ {from seen : ℕ} (w : Ruling s from seen c) where
-    pub ruling_end : m.there ≡ false → {r : Bool} → r ≡ whole_in seen → r ≡ is_read (read_recur (member_list (members_at s from)))
-    ruling_end y e = all_noted (member_list (members_at s from)) (rw (member_over y) at w.noting) e
-
-    module _ (y : m.there ≡ true) {i : ℕ} (e : i ≡ part_place (string_at s m.name)) {b : Bool} (f : b ≡ part_in i (first_of (elements_at s m.next))) where
+    module _ {from seen : ℕ} (w : Ruling s from seen c) {i : ℕ} (e : i ≡ part_place (string_at s m.name)) {b : Bool} (f : b ≡ part_in i (first_of (elements_at s m.next))) where
       here : Noting (member_list (members_at s from)) seen (member_of s m.name m.next ∷ member_list (members_at s m.next))
-      here = rw (member_here y) at w.noting
+      here = rw member_here at w.noting
 
       fits : is_read (read_part (member_of s m.name m.next)) ≡ b
       fits = part_as (member_of s m.name m.next) ∙ rw (← e) (sym f)

@@ -4,11 +4,10 @@
 --     magnitude_is     the magnitude, by the places of the parts
 --     Marking          the invariant of the walk to a byte that passes a test;   `search marking`
 --     signs, signing, raising    the rules of the code
-use Rattle.std.specs.Prelude.{◌≡◌, Bool, List, [], ◌∷◌, ltb, get_or, take, drop}
+use Rattle.std.specs.Prelude.{◌≡◌, Bool, List, [], ◌∷◌, ltb, get_or, take, drop, Option, None, Some}
 use Rattle.std.proofs.Math.Path.{refl, sym}
 use Rattle.std.proofs.Common.{ap, ◌∙◌, mul-le-mul_left, mul-le-mul_right, length-drop, drop_of_length-le, take-take, length-take-le, rules}
 use Rattle.std.proofs.Math.Bool.{true, false}
-use Rattle.std.proofs.Math.Option.{Option, none, some}
 use Prim.Native.Nat.{ℕ, zero, suc, ◌+◌, ◌-◌, ◌*◌, ◌^◌, ◌≤◌, ◌<◌, min}
 use native.Mathlib.Omega.{arith}
 use Rattle.std.proofs.Math.Decide.{dec_le}
@@ -46,7 +45,7 @@ module _ (neg : Bool) where
       go true = omega arith
       go false = omega arith
 
-  signed_over : (n : ℕ) → 2147483648 < n → signed_to neg n ≡ none
+  signed_over : (n : ℕ) → 2147483648 < n → signed_to neg n ≡ None
   unfolding signed_to pick
   signed_over n h = let m = most_small in rw (lt-leb n (most neg) (omega (arith, m)))
 
@@ -91,7 +90,7 @@ module _ (neg : Bool) where
               rw z (signed_over neg (n * 10 ^ k) (omega (arith, a)) ∙ sym (signed_over neg (far * 10 ^ k) (omega (arith, b))))
       small false = sym (signed_over neg far (omega arith))
 
-      go : (t : Bool) → eqb n 0 ≡ t → (l : Bool) → and_then (pick t (some 0) (provided l (n * 10 ^ k))) (signed_to neg) ≡ signed_to neg (pick (eqb (min far n) 0) 0 (pick l (min far n * 10 ^ k) far))
+      go : (t : Bool) → eqb n 0 ≡ t → (l : Bool) → and_then (pick t (Some 0) (provided l (n * 10 ^ k))) (signed_to neg) ≡ signed_to neg (pick (eqb (min far n) 0) 0 (pick l (min far n * 10 ^ k) far))
       go true e l = let z : min far n ≡ 0 = let q = eqb-true n 0 e in omega arith in rw z
       go false e l = rw (ne_eqb (min far n) 0 (λ z. eqb-false n 0 e (omega arith))) (small l)
 
@@ -401,23 +400,23 @@ magnitude_is s a {e} {q} {behind} {keep} {v} {more} {r} {x} m y p b k f z g =
 -- ---- the number
 
 module _ (neg : Bool) {n t : ℕ} (e : Most neg t) where
-  pub signed_bad : t < n → signed_to neg n ≡ none
+  pub signed_bad : t < n → signed_to neg n ≡ None
   unfolding signed_to pick
   signed_bad h = rw (← e.is, lt-leb n t h)
 
-  pub signed_zero : n ≡ 0 → signed_to neg n ≡ some (whole_is false 0)
+  pub signed_zero : n ≡ 0 → signed_to neg n ≡ Some (whole_is false 0)
   unfolding signed_to pick ◌and◌
   signed_zero h = rw (h) (go neg)
     where
-      go : (b : Bool) → provided (leb 0 (most b)) (integer_of b 0) ≡ some (whole_is false 0)
+      go : (b : Bool) → provided (leb 0 (most b)) (integer_of b 0) ≡ Some (whole_is false 0)
       go true = refl
       go false = refl
 
-  pub signed_some : n ≤ t → (n ≡ 0 → ⊥) → signed_to neg n ≡ some (whole_is neg n)
+  pub signed_some : n ≤ t → (n ≡ 0 → ⊥) → signed_to neg n ≡ Some (whole_is neg n)
   unfolding signed_to pick ◌and◌
   signed_some h z = rw (← e.is, le-leb n t h, lt-ltb 0 n (omega (arith, z))) (go neg)
     where
-      go : (b : Bool) → some (whole_is (b and true) n) ≡ some (whole_is b n)
+      go : (b : Bool) → Some (whole_is (b and true) n) ≡ Some (whole_is b n)
       go true = refl
       go false = refl
 

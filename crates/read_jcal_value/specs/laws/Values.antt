@@ -1,13 +1,12 @@
 -- Laws of what specs/Values.antt defines.
 --     one_in_lem   an element by its head, and by its JSON value
 --     values_as    the values of a property, by numbers and by names
---     set_word, set_none    a word of a closed set;   answering: the rules of `values_read`
-use Rattle.std.specs.Prelude.{◌≡◌, Bool, true, false, ℕ, ◌≤◌, eqb}
+--     set_told    a word of a closed set;   answering: the rules of `values_read`
+use Rattle.std.specs.Prelude.{◌≡◌, Bool, true, false, ℕ, ◌≤◌, eqb, Option, None, Some, is_some}
 use Rattle.std.proofs.Math.Path.{refl, ap}
 use Rattle.std.proofs.Common.{sym, ◌∙◌, rules}
 use mathlib.Core.List.{List, [], ◌∷◌}
-use Rattle.std.proofs.Math.Option.{Option, none, some}
-use Rattle.octets.specs.Pick.{pick, ◌and◌}
+use Rattle.octets.specs.Pick.{pick}
 use Rattle.octets.specs.Lists.{every}
 use Rattle.octets.specs.Reading.{and_then, is_read, read_each}
 use Rattle.calendar.specs.Calendar.{text}
@@ -24,8 +23,6 @@ use Rattle.schema.specs.laws.Places.{type_back}
 use Rattle.schema.specs.Property as property
 use Rattle.schema.specs.declared.Context.{Context}
 use Rattle.schema.specs.declared.table.Row.{Row}
-use Rattle.schema.specs.declared.WordRead.{WordRead}
-use Rattle.schema.specs.declared.WordRead.TheVariants.{At, NoWord}
 use Rattle.recur.specs.laws.Fits.{provided_is}
 use Rattle.json_text.specs.Tree.{Json}
 use Rattle.json_text.specs.Kinds.{as_array}
@@ -35,25 +32,23 @@ use Rattle.read_json.specs.declared.Head.{Head}
 use Rattle.read_jcal_value.specs.Elements.{string_of, array_of}
 use Rattle.read_jcal_value.specs.laws.Typed.{typed_is}
 use Rattle.read_jcal_value.specs.laws.Items.{each_read}
-use Rattle.read_jcal_value.specs.Values.{read_strings, read_word_in, chosen_in, one_in, one_at, values_in, are_read}
-use Rattle.read_jcal_value.specs.declared.valued.ValuesRead.{ValuesRead}
-use Rattle.read_jcal_value.specs.declared.valued.ValuesRead.TheVariants.{Read, Bad}
+use Rattle.read_jcal_value.specs.Values.{read_strings, read_word_in, chosen_in, one_in, one_at, values_in}
 
 -- ---- a word of a closed set
 
-module _ {r : WordRead} (o : Option (List (List ℕ))) (l : List ℕ) (e : r ≡ word_in o l) where
-  pub set_word : {i : ℕ} → r ≡ At i → true ≡ is_read (read_word_in o l)
-  set_word h = word_yes o l e h ∙ sym (provided_is (is_word_of o l) (text l))
-
-  pub set_none : r ≡ NoWord → false ≡ is_read (read_word_in o l)
-  set_none h = word_no o l e h ∙ sym (provided_is (is_word_of o l) (text l))
+pub set_told : {r : Option ℕ} (o : Option (List (List ℕ))) (l : List ℕ) → r ≡ word_in o l → {b : Bool} → b ≡ is_some r → b ≡ is_read (read_word_in o l)
+set_told {r} o l e f = f ∙ go r e ∙ sym (provided_is (is_word_of o l) (text l))
+  where
+    go : (r : Option ℕ) → r ≡ word_in o l → is_some r ≡ is_word_of o l
+    go None e = word_no o l e refl
+    go (Some i) e = word_yes o l e refl
 
 -- ---- one value
 
 chosen_is : (o : Option (List (List ℕ))) (t : ℕ) (s : List ℕ) (h : Head) → chosen_in o t s h ≡ is_read (read_chosen o (type_at t) (value_of_head s h))
 unfolding pick is_read string_of
-chosen_is none t s h = sym (typed_is s h t)
-chosen_is (some ws) t s h = refl
+chosen_is None t s h = sym (typed_is s h t)
+chosen_is (Some ws) t s h = refl
 
 pub one_in_lem : (x : Context) (s : List ℕ) (h : Head) {r : Bool} → r ≡ one_in x s h → r ≡ one_at x (value_of_head s h)
 unfolding one_at array_of
@@ -87,30 +82,24 @@ module _ (x : Context) (c w : List ℕ) (a : x.component ≡ place_of c componen
   unfolding read_values is_read
   values_as h vs =
       rw (permits_type_place w (type_at x.value_type), type_back x.value_type h, ← y)
-      (pick_read (permits_type x.row x.value_type) (read_each (read_one c w (type_at x.value_type)) vs) none
+      (pick_read (permits_type x.row x.value_type) (read_each (read_one c w (type_at x.value_type)) vs) None
       ∙ ap (λ (b : Bool). pick (permits_type x.row x.value_type) b false) (each_read (read_one c w (type_at x.value_type)) vs ∙ every_as vs))
 
 -- ---- the answers
 
 module _ (x : Context) (vs : List Json) {b : Bool} (p : b ≡ permits_type x.row x.value_type) where
-  answer_as : (r : ValuesRead) → are_read r ≡ values_in x vs → (c w : List ℕ) → x.component ≡ place_of c component_names → x.row ≡ row_at (place_of w property_names) → x.value_type ≤ 14 →
-      are_read r ≡ is_read (read_values c w (type_at x.value_type) vs)
+  answer_as : (r : Bool) → r ≡ values_in x vs → (c w : List ℕ) → x.component ≡ place_of c component_names → x.row ≡ row_at (place_of w property_names) → x.value_type ≤ 14 →
+      r ≡ is_read (read_values c w (type_at x.value_type) vs)
   answer_as r e c w a y h = e ∙ sym (values_as x c w a y h vs)
 
   pub answer_other : b ≡ false → (c w : List ℕ) → x.component ≡ place_of c component_names → x.row ≡ row_at (place_of w property_names) → x.value_type ≤ 14 →
-      are_read Bad ≡ is_read (read_values c w (type_at x.value_type) vs)
+      b ≡ is_read (read_values c w (type_at x.value_type) vs)
   unfolding pick
-  answer_other h = answer_as Bad (rw (← p, h))
+  answer_other h = answer_as b (rw (← p, h))
 
-  module _ (h : b ≡ true) {a : Bool} (q : a ≡ every (one_at x) vs) where
-    pub answer_good : a ≡ true → (c w : List ℕ) → x.component ≡ place_of c component_names → x.row ≡ row_at (place_of w property_names) → x.value_type ≤ 14 →
-        are_read Read ≡ is_read (read_values c w (type_at x.value_type) vs)
-    unfolding pick
-    answer_good k = answer_as Read (rw (← p, h, ← q, k))
+  pub answer_each : {r : Bool} → b ≡ true → r ≡ every (one_at x) vs → (c w : List ℕ) → x.component ≡ place_of c component_names → x.row ≡ row_at (place_of w property_names) → x.value_type ≤ 14 →
+      r ≡ is_read (read_values c w (type_at x.value_type) vs)
+  unfolding pick
+  answer_each {r} h q = answer_as r (rw (← p, h) q)
 
-    pub answer_bad : a ≡ false → (c w : List ℕ) → x.component ≡ place_of c component_names → x.row ≡ row_at (place_of w property_names) → x.value_type ≤ 14 →
-        are_read Bad ≡ is_read (read_values c w (type_at x.value_type) vs)
-    unfolding pick
-    answer_bad k = answer_as Bad (rw (← p, h, ← q, k))
-
-pub ruleset answering = (answer_other, answer_good, answer_bad, rules)
+pub ruleset answering = (answer_other, answer_each, rules)

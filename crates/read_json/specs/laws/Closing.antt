@@ -1,8 +1,8 @@
 -- Laws of the end of an open array or object.
 --     Closing     the invariant of the walk over tokens: depth arrays and objects are open inside the one whose end is sought;   `search closing`
-use Rattle.std.specs.Prelude.{◌≡◌, List, [], ◌∷◌, length}
+use Rattle.std.specs.Prelude.{◌≡◌, ◌⊎◌, None, Some, List, [], ◌∷◌, length}
 use Rattle.std.proofs.Math.Path.{refl}
-use Rattle.std.proofs.Common.{sym, ap, subst, ◌∙◌, arith, rules}
+use Rattle.std.proofs.Common.{inl, inr, sym, ap, subst, ◌∙◌, arith, rules}
 use Prim.Native.Nat.{ℕ, zero, suc, ◌+◌, ◌-◌, ◌≤◌, ◌<◌}
 use Rattle.std.proofs.Math.Numerals.{add-one, sub-one}
 use Rattle.json_text.specs.Tree.{Json, string, number, literal, Token, opens_array, opens_object, closes, name, scalar, end_by, end_place, elements_by, members_by, elements, members, no_elements, no_members}
@@ -12,7 +12,7 @@ use Rattle.read_json.specs.Pieces.{Taken, PieceAt}
 use Rattle.read_json.specs.laws.Pieces.{piece_is, piece_takes}
 use Rattle.read_json.specs.Closing.{EndedAt}
 use Rattle.read_json.specs.declared.Piece.{Piece}
-use Rattle.read_json.specs.declared.PieceKind.TheVariants.{None, Array, Object, Close, Name, String, Number, Literal}
+use Rattle.read_json.specs.declared.PieceKind.TheVariants.{Absent, Array, Object, Close, Name, String, Number, Literal}
 
 -- what is sought from one list of tokens, d deep, is sought from another, e deep
 pub record Seeks (ts : List Token) (d : ℕ) (us : List Token) (e : ℕ) : Type 0 where
@@ -80,16 +80,18 @@ pub closing_start : (s : List ℕ) (from : ℕ) → from ≤ length s → Closin
 closing_start s from h = record { low = omega arith; high = h; deep = omega arith; left = seeks_same (tokens_at s from) 0 }
 
 module _ {s : List ℕ} {from at depth : ℕ} (c : Closing s from at depth) {r : Piece} (t : PieceAt s at r) where
-  pub closing_none : r.kind ≡ None → EndedAt s from (record { place = 0; next = length s })
+  pub closing_none : r.kind ≡ Absent → EndedAt s from None
   closing_none q =
-      let g : Seeks (tokens_at s from) 0 [] depth = subst (λ us. Seeks (tokens_at s from) 0 us depth) (piece_is t None q) c.left in
+      let g : Seeks (tokens_at s from) 0 [] depth = subst (λ us. Seeks (tokens_at s from) 0 us depth) (piece_is t Absent q) c.left in
       let z = none_left depth in
       record {
         place = g.place ∙ z.0;
-        elements_after = g.rest_elements ∙ z.1 ∙ sym (elements_past s (length s) (omega arith));
-        members_after = g.rest_members ∙ z.2 ∙ sym (members_past s (length s) (omega arith));
-        onward = omega (arith, c.low, c.high);
-        inside = omega arith;
+        behind = record {
+          elements_after = g.rest_elements ∙ z.1 ∙ sym (elements_past s (length s) (omega arith));
+          members_after = g.rest_members ∙ z.2 ∙ sym (members_past s (length s) (omega arith));
+          onward = omega (arith, c.low, c.high);
+          inside = omega arith;
+        };
       }
 
   -- a token that leads on
@@ -104,77 +106,44 @@ module _ {s : List ℕ} {from at depth : ℕ} (c : Closing s from at depth) {r :
   less : Taken s at r.place r.next → length s - r.next < length s - at
   less k = omega (arith, k.onward, k.some, k.inside)
 
-  pub closing_array : r.kind ≡ Array → Closing s from r.next (depth + 1)
-  closing_array q = step (piece_takes t Array q) (depth + 1) (omega arith) (rw (piece_is t Array q) (seeks_array (tokens_at s r.next) r.place depth))
-
-  pub closing_object : r.kind ≡ Object → Closing s from r.next (depth + 1)
-  closing_object q = step (piece_takes t Object q) (depth + 1) (omega arith) (rw (piece_is t Object q) (seeks_object (tokens_at s r.next) r.place depth))
+  pub closing_opens : (r.kind ≡ Array) ⊎ (r.kind ≡ Object) → Closing s from r.next (depth + 1)
+  closing_opens (inl q) = step (piece_takes t Array q) (depth + 1) (omega arith) (rw (piece_is t Array q) (seeks_array (tokens_at s r.next) r.place depth))
+  closing_opens (inr q) = step (piece_takes t Object q) (depth + 1) (omega arith) (rw (piece_is t Object q) (seeks_object (tokens_at s r.next) r.place depth))
 
   pub closing_close : r.kind ≡ Close → (depth ≡ 0 → ⊥) → Closing s from r.next (depth - 1)
   closing_close q h = step (piece_takes t Close q) (depth - 1) (omega arith) (rw (piece_is t Close q) (seeks_closes (tokens_at s r.next) r.place depth h))
 
-  pub closing_name : r.kind ≡ Name → Closing s from r.next depth
-  closing_name q = step (piece_takes t Name q) depth (omega arith) (rw (piece_is t Name q) (seeks_name (tokens_at s r.next) r.place (string_at s r.place) depth))
+  pub closing_inner : (r.kind ≡ Name) ⊎ (r.kind ≡ String) ⊎ (r.kind ≡ Number) ⊎ (r.kind ≡ Literal) → Closing s from r.next depth
+  closing_inner (inl q) = step (piece_takes t Name q) depth (omega arith) (rw (piece_is t Name q) (seeks_name (tokens_at s r.next) r.place (string_at s r.place) depth))
+  closing_inner (inr (inl q)) = step (piece_takes t String q) depth (omega arith) (rw (piece_is t String q) (seeks_scalar (tokens_at s r.next) (string r.place (string_at s r.place)) depth))
+  closing_inner (inr (inr (inl q))) = step (piece_takes t Number q) depth (omega arith) (rw (piece_is t Number q) (seeks_scalar (tokens_at s r.next) (number r.place (word_at s r.place r.next)) depth))
+  closing_inner (inr (inr (inr q))) = step (piece_takes t Literal q) depth (omega arith) (rw (piece_is t Literal q) (seeks_scalar (tokens_at s r.next) (literal r.place (word_at s r.place r.next)) depth))
 
-  pub closing_string : r.kind ≡ String → Closing s from r.next depth
-  closing_string q = step (piece_takes t String q) depth (omega arith) (rw (piece_is t String q) (seeks_scalar (tokens_at s r.next) (string r.place (string_at s r.place)) depth))
-
-  pub closing_number : r.kind ≡ Number → Closing s from r.next depth
-  closing_number q = step (piece_takes t Number q) depth (omega arith) (rw (piece_is t Number q) (seeks_scalar (tokens_at s r.next) (number r.place (word_at s r.place r.next)) depth))
-
-  pub closing_literal : r.kind ≡ Literal → Closing s from r.next depth
-  closing_literal q = step (piece_takes t Literal q) depth (omega arith) (rw (piece_is t Literal q) (seeks_scalar (tokens_at s r.next) (literal r.place (word_at s r.place r.next)) depth))
-
-  pub closing_done : r.kind ≡ Close → depth ≡ 0 → EndedAt s from (record { place = r.place; next = r.next })
+  pub closing_done : r.kind ≡ Close → depth ≡ 0 → EndedAt s from (Some (record { place = r.place; next = r.next }))
   closing_done q z =
       let k = piece_takes t Close q in
       let g : Seeks (tokens_at s from) 0 (closes r.place ∷ tokens_at s r.next) 0 =
       subst (λ us. Seeks (tokens_at s from) 0 us 0) (piece_is t Close q) (subst (Seeks (tokens_at s from) 0 (tokens_at s at)) z c.left) in record {
         place = g.place ∙ end_here (tokens_at s r.next) r.place;
-        elements_after = g.rest_elements ∙ elements_here (tokens_at s r.next) r.place ∙ sym (elements_are s r.next);
-        members_after = g.rest_members ∙ members_here (tokens_at s r.next) r.place ∙ sym (members_are s r.next);
-        onward = omega (arith, c.low, k.onward, k.some);
-        inside = k.inside;
+        behind = record {
+          elements_after = g.rest_elements ∙ elements_here (tokens_at s r.next) r.place ∙ sym (elements_are s r.next);
+          members_after = g.rest_members ∙ members_here (tokens_at s r.next) r.place ∙ sym (members_are s r.next);
+          onward = omega (arith, c.low, k.onward, k.some);
+          inside = k.inside;
+        };
       }
 
-  pub closing_less_array : r.kind ≡ Array → length s - r.next < length s - at
-  closing_less_array q = less (piece_takes t Array q)
-
-  pub closing_less_object : r.kind ≡ Object → length s - r.next < length s - at
-  closing_less_object q = less (piece_takes t Object q)
+  pub closing_less_opens : (r.kind ≡ Array) ⊎ (r.kind ≡ Object) → length s - r.next < length s - at
+  closing_less_opens (inl q) = less (piece_takes t Array q)
+  closing_less_opens (inr q) = less (piece_takes t Object q)
 
   pub closing_less_close : r.kind ≡ Close → length s - r.next < length s - at
   closing_less_close q = less (piece_takes t Close q)
 
-  pub closing_less_name : r.kind ≡ Name → length s - r.next < length s - at
-  closing_less_name q = less (piece_takes t Name q)
+  pub closing_less_inner : (r.kind ≡ Name) ⊎ (r.kind ≡ String) ⊎ (r.kind ≡ Number) ⊎ (r.kind ≡ Literal) → length s - r.next < length s - at
+  closing_less_inner (inl q) = less (piece_takes t Name q)
+  closing_less_inner (inr (inl q)) = less (piece_takes t String q)
+  closing_less_inner (inr (inr (inl q))) = less (piece_takes t Number q)
+  closing_less_inner (inr (inr (inr q))) = less (piece_takes t Literal q)
 
-  pub closing_less_string : r.kind ≡ String → length s - r.next < length s - at
-  closing_less_string q = less (piece_takes t String q)
-
-  pub closing_less_number : r.kind ≡ Number → length s - r.next < length s - at
-  closing_less_number q = less (piece_takes t Number q)
-
-  pub closing_less_literal : r.kind ≡ Literal → length s - r.next < length s - at
-  closing_less_literal q = less (piece_takes t Literal q)
-
-pub ruleset closing = (
-  closing_start,
-  closing_none,
-  closing_array,
-  closing_object,
-  closing_close,
-  closing_name,
-  closing_string,
-  closing_number,
-  closing_literal,
-  closing_done,
-  closing_less_array,
-  closing_less_object,
-  closing_less_close,
-  closing_less_name,
-  closing_less_string,
-  closing_less_number,
-  closing_less_literal,
-  rules,
-)
+pub ruleset closing = (closing_start, closing_none, closing_opens, closing_close, closing_inner, closing_done, closing_less_opens, closing_less_close, closing_less_inner, rules)

@@ -2,7 +2,7 @@
 --     Ending      the invariant of the walk over a string's characters;   `search ending`
 --     Word        the invariant of the walk over a word's bytes;   `search wording`
 --     Spaces      the invariant of the walk over white space;   `search spacing`
-use Rattle.std.specs.Prelude.{◌≡◌, refl, Bool, true, false, List, [], ◌∷◌, ℕ, suc, ◌+◌, ◌-◌, ◌≤◌, ◌<◌, eqb, ltb, length, get_or, drop}
+use Rattle.std.specs.Prelude.{◌≡◌, refl, Bool, true, false, List, ◌∷◌, ℕ, ◌+◌, ◌-◌, ◌≤◌, ◌<◌, eqb, ltb, length, get_or, drop}
 use Rattle.std.proofs.Math.Path.{sym}
 use Rattle.std.proofs.Common.{ap, ◌∙◌, arith, drop_of_length-le, rules, ltb-true, ltb-false}
 use Rattle.octets.specs.Pick.{pick}

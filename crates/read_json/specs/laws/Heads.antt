@@ -2,23 +2,22 @@
 --     Seeking        the invariant of the walk to the next element;   `search seeking`
 --     next_found     the answers of `element_next`
 --     list_none, list_string, list_number, list_literal, list_array, list_object    the elements as a list, by the one that was found
-use Rattle.std.specs.Prelude.{◌≡◌, List, [], ◌∷◌, ℕ, zero, suc, ◌+◌, ◌-◌, ◌≤◌, ◌<◌, length}
+use Rattle.std.specs.Prelude.{◌≡◌, ◌⊎◌, List, [], ◌∷◌, ℕ, ◌-◌, ◌≤◌, ◌<◌, length}
 use Rattle.std.proofs.Math.Path.{refl, ap}
-use Rattle.std.proofs.Common.{sym, subst, ◌∙◌, arith, rules}
+use Rattle.std.proofs.Common.{inl, inr, sym, subst, ◌∙◌, arith, rules}
 use Prim.{tt}
 use Rattle.json_text.specs.Tree.{Json, Token, opens_array, opens_object, closes, name, scalar, Elements, no_elements, element, array, object, end_place, elements_by, elements, members, element_list}
-use Rattle.read_json.specs.TreeAt.{tokens_at, elements_at, members_at, string_at}
+use Rattle.read_json.specs.TreeAt.{tokens_at, elements_at, string_at}
 use Rattle.read_json.specs.laws.TreeAt.{elements_are, members_are, elements_past}
 use Rattle.read_json.specs.Pieces.{Taken, PieceAt}
 use Rattle.read_json.specs.laws.Pieces.{piece_is, piece_takes}
-use Rattle.read_json.specs.Closing.{EndedAt}
-use Rattle.read_json.specs.Heads.{value_by, behind_by, head_by, HeadTakes, HeadAt, NextAt, head_of}
-use Rattle.read_json.specs.declared.Ended.{Ended}
+use Rattle.read_json.specs.Closing.{BehindAt}
+use Rattle.read_json.specs.Heads.{value_by, behind_by, head_by, HeadAt, NextAt, head_of}
 use Rattle.read_json.specs.declared.Head.{Head}
 use Rattle.read_json.specs.declared.HeadKind.{HeadKind}
 use Rattle.read_json.specs.declared.HeadKind.TheVariants as heads
 use Rattle.read_json.specs.declared.Piece.{Piece}
-use Rattle.read_json.specs.declared.PieceKind.TheVariants.{None, Array, Object, Close, Name, String, Number, Literal}
+use Rattle.read_json.specs.declared.PieceKind.TheVariants.{Absent, Array, Object, Close, Name, String, Number, Literal}
 
 pub record Seeking (s : List ℕ) (from at : ℕ) : Type 0 where
   pub same : elements_at s from ≡ elements_at s at
@@ -64,14 +63,12 @@ module _ {s : List ℕ} {from at : ℕ} (w : Seeking s from at) {r : Piece} (t :
   onward k = record { onward = omega (arith, w.onward, k.onward); some = k.some; inside = k.inside }
 
   -- nothing more
-  nothing : elements_at s from ≡ no_elements → {h : Head} → h ≡ head_of heads.None (length s) (length s) → HeadAt s from h
+  nothing : elements_at s from ≡ no_elements → {h : Head} → h ≡ head_of heads.Absent (length s) (length s) → HeadAt s from h
   nothing e f = rw f (record { is = e; inside = omega arith; takes = tt })
 
-  pub seeking_none : r.kind ≡ None → {h : Head} → h ≡ head_of heads.None (length s) (length s) → HeadAt s from h
-  seeking_none q f = nothing (from_tokens _ (piece_is t None q) ∙ by_none) f
-
-  pub seeking_close : r.kind ≡ Close → {h : Head} → h ≡ head_of heads.None (length s) (length s) → HeadAt s from h
-  seeking_close q f = nothing (from_tokens _ (piece_is t Close q) ∙ by_close (tokens_at s r.next) r.place) f
+  pub seeking_none : (r.kind ≡ Absent) ⊎ (r.kind ≡ Close) → {h : Head} → h ≡ head_of heads.Absent (length s) (length s) → HeadAt s from h
+  seeking_none (inl q) f = nothing (from_tokens _ (piece_is t Absent q) ∙ by_none) f
+  seeking_none (inr q) f = nothing (from_tokens _ (piece_is t Close q) ∙ by_close (tokens_at s r.next) r.place) f
 
   pub seeking_name : r.kind ≡ Name → Seeking s from r.next
   seeking_name q =
@@ -106,7 +103,6 @@ module _ {s : List ℕ} {from at : ℕ} (w : Seeking s from at) {r : Piece} (t :
 pub ruleset seeking = (
   seeking_start,
   seeking_none,
-  seeking_close,
   seeking_name,
   seeking_less,
   seeking_array,
@@ -123,26 +119,20 @@ module _ {s : List ℕ} {h : Head} (l : h.next ≤ length s) where
   behind_is : (k : HeadKind) → h.kind ≡ k → (r : ℕ) → behind_by k s h.next ≡ elements_at s r → h.next ≤ r → r ≤ length s → NextAt s h r
   behind_is k q r e o i = record { is = ap (λ (x : HeadKind). behind_by x s h.next) q ∙ e; onward = o; inside = i }
 
-  pub next_none : h.kind ≡ heads.None → NextAt s h (length s)
-  next_none q = behind_is heads.None q (length s) (sym (elements_past s (length s) (omega arith))) l (omega arith)
+  pub next_none : h.kind ≡ heads.Absent → NextAt s h (length s)
+  next_none q = behind_is heads.Absent q (length s) (sym (elements_past s (length s) (omega arith))) l (omega arith)
 
-  pub next_string : h.kind ≡ heads.String → NextAt s h h.next
-  next_string q = behind_is heads.String q h.next refl (omega arith) l
+  pub next_scalar : (h.kind ≡ heads.String) ⊎ (h.kind ≡ heads.Number) ⊎ (h.kind ≡ heads.Literal) → NextAt s h h.next
+  next_scalar (inl q) = behind_is heads.String q h.next refl (omega arith) l
+  next_scalar (inr (inl q)) = behind_is heads.Number q h.next refl (omega arith) l
+  next_scalar (inr (inr q)) = behind_is heads.Literal q h.next refl (omega arith) l
 
-  pub next_number : h.kind ≡ heads.Number → NextAt s h h.next
-  next_number q = behind_is heads.Number q h.next refl (omega arith) l
+  module _ {r : ℕ} (d : BehindAt s h.next r) where
+    pub next_container : (h.kind ≡ heads.Array) ⊎ (h.kind ≡ heads.Object) → NextAt s h r
+    next_container (inl q) = behind_is heads.Array q r d.elements_after d.onward d.inside
+    next_container (inr q) = behind_is heads.Object q r d.elements_after d.onward d.inside
 
-  pub next_literal : h.kind ≡ heads.Literal → NextAt s h h.next
-  next_literal q = behind_is heads.Literal q h.next refl (omega arith) l
-
-  module _ {e : Ended} (d : EndedAt s h.next e) where
-    pub next_array : h.kind ≡ heads.Array → NextAt s h e.next
-    next_array q = behind_is heads.Array q e.next d.elements_after d.onward d.inside
-
-    pub next_object : h.kind ≡ heads.Object → NextAt s h e.next
-    next_object q = behind_is heads.Object q e.next d.elements_after d.onward d.inside
-
-pub ruleset next_found = (next_none, next_string, next_number, next_literal, next_array, next_object, rules)
+pub ruleset next_found = (next_none, next_scalar, next_container, rules)
 
 -- ---- the elements as a list
 
@@ -150,9 +140,9 @@ module _ {s : List ℕ} {at : ℕ} {h : Head} (t : HeadAt s at h) where
   by_kind : (k : HeadKind) → h.kind ≡ k → elements_at s at ≡ head_by k s h.place h.next
   by_kind k q = t.is ∙ ap (λ (x : HeadKind). head_by x s h.place h.next) q
 
-  pub list_none : h.kind ≡ heads.None → element_list (elements_at s at) ≡ []
+  pub list_none : h.kind ≡ heads.Absent → element_list (elements_at s at) ≡ []
   unfolding element_list
-  list_none q = ap element_list (by_kind heads.None q)
+  list_none q = ap element_list (by_kind heads.Absent q)
 
   -- of a kind that is some
   list_by : (k : HeadKind) → h.kind ≡ k → head_by k s h.place h.next ≡ element (value_by k s h.place h.next) (behind_by k s h.next) → {r : ℕ} → NextAt s h r →

@@ -1,19 +1,18 @@
 -- Laws of the members of an object, one by one.
 --     Searching     the invariant of the walk to the next member;   `search searching`
-use Rattle.std.specs.Prelude.{◌≡◌, true, false, List, [], ◌∷◌, ℕ, ◌+◌, ◌-◌, ◌≤◌, ◌<◌, length}
+use Rattle.std.specs.Prelude.{◌≡◌, None, Some, ◌⊎◌, List, [], ◌∷◌, ℕ, ◌-◌, ◌≤◌, ◌<◌, length}
 use Rattle.std.proofs.Math.Path.{refl}
-use Rattle.std.proofs.Common.{sym, ap, subst, ◌∙◌, arith, rules}
+use Rattle.std.proofs.Common.{inl, inr, sym, ap, subst, ◌∙◌, arith, rules}
 use Prim.{tt}
 use Rattle.json_text.specs.Tree.{Json, Token, opens_array, opens_object, closes, name, scalar, no_members, member, first_of, members_by, elements, members}
-use Rattle.read_json.specs.TreeAt.{tokens_at, elements_at, members_at, string_at}
+use Rattle.read_json.specs.TreeAt.{tokens_at, members_at, string_at}
 use Rattle.read_json.specs.laws.TreeAt.{elements_are, members_are}
 use Rattle.read_json.specs.Pieces.{Taken, PieceAt}
 use Rattle.read_json.specs.laws.Pieces.{piece_is, piece_takes}
-use Rattle.read_json.specs.Closing.{EndedAt}
+use Rattle.read_json.specs.Closing.{BehindAt}
 use Rattle.read_json.specs.MemberHeads.{MemberAt}
-use Rattle.read_json.specs.declared.Ended.{Ended}
 use Rattle.read_json.specs.declared.Piece.{Piece}
-use Rattle.read_json.specs.declared.PieceKind.TheVariants.{None, Array, Object, Close, Name, String, Number, Literal}
+use Rattle.read_json.specs.declared.PieceKind.TheVariants.{Absent, Array, Object, Close, Name, String, Number, Literal}
 
 pub record Searching (s : List ℕ) (from at : ℕ) : Type 0 where
   pub same : members_at s from ≡ members_at s at
@@ -55,13 +54,11 @@ module _ {s : List ℕ} {from at : ℕ} (w : Searching s from at) {r : Piece} (t
   from_tokens : (ts : List Token) → tokens_at s at ≡ ts → members_at s from ≡ members ts 0
   from_tokens ts e = w.same ∙ members_are s at ∙ ap (λ (us : List Token). members us 0) e
 
-  pub searching_none : r.kind ≡ None → MemberAt s from (record { there = false; name = 0; next = 0 })
-  searching_none q = record { is = from_tokens _ (piece_is t None q) ∙ by_none; takes = tt }
+  pub searching_none : (r.kind ≡ Absent) ⊎ (r.kind ≡ Close) → MemberAt s from None
+  searching_none (inl q) = record { is = from_tokens _ (piece_is t Absent q) ∙ by_none; takes = tt }
+  searching_none (inr q) = record { is = from_tokens _ (piece_is t Close q) ∙ by_close (tokens_at s r.next) r.place; takes = tt }
 
-  pub searching_close : r.kind ≡ Close → MemberAt s from (record { there = false; name = 0; next = 0 })
-  searching_close q = record { is = from_tokens _ (piece_is t Close q) ∙ by_close (tokens_at s r.next) r.place; takes = tt }
-
-  pub searching_name : r.kind ≡ Name → MemberAt s from (record { there = true; name = r.place; next = r.next })
+  pub searching_name : r.kind ≡ Name → MemberAt s from (Some (record { name = r.place; next = r.next }))
   searching_name q =
       let k = piece_takes t Name q in
       record {
@@ -70,31 +67,24 @@ module _ {s : List ℕ} {from at : ℕ} (w : Searching s from at) {r : Piece} (t
       }
 
   -- a value is passed over
-  inside : Taken s at r.place r.next → r.next ≤ length s
-  inside k = k.inside
+  pub inside_container : (r.kind ≡ Array) ⊎ (r.kind ≡ Object) → r.next ≤ length s
+  inside_container (inl q) = (piece_takes t Array q).inside
+  inside_container (inr q) = (piece_takes t Object q).inside
 
-  pub inside_array : r.kind ≡ Array → r.next ≤ length s
-  inside_array q = inside (piece_takes t Array q)
+  module _ {e : ℕ} (d : BehindAt s r.next e) where
+    past : (ts : List Token) → tokens_at s at ≡ ts → members ts 0 ≡ members (tokens_at s r.next) 1 → Taken s at r.place r.next → Searching s from e
+    past ts p q k = record { same = from_tokens ts p ∙ q ∙ d.members_after; onward = omega (arith, w.onward, k.onward, k.some, d.onward) }
 
-  pub inside_object : r.kind ≡ Object → r.next ≤ length s
-  inside_object q = inside (piece_takes t Object q)
+    less : Taken s at r.place r.next → length s - e < length s - at
+    less k = omega (arith, k.onward, k.some, d.onward, d.inside)
 
-  module _ {e : Ended} (d : EndedAt s r.next e) where
-    pub searching_array : r.kind ≡ Array → Searching s from e.next
-    searching_array q =
-        let k = piece_takes t Array q in
-        record { same = from_tokens _ (piece_is t Array q) ∙ by_array (tokens_at s r.next) r.place ∙ d.members_after; onward = omega (arith, w.onward, k.onward, k.some, d.onward) }
+    pub searching_container : (r.kind ≡ Array) ⊎ (r.kind ≡ Object) → Searching s from e
+    searching_container (inl q) = past _ (piece_is t Array q) (by_array (tokens_at s r.next) r.place) (piece_takes t Array q)
+    searching_container (inr q) = past _ (piece_is t Object q) (by_object (tokens_at s r.next) r.place) (piece_takes t Object q)
 
-    pub searching_object : r.kind ≡ Object → Searching s from e.next
-    searching_object q =
-        let k = piece_takes t Object q in
-        record { same = from_tokens _ (piece_is t Object q) ∙ by_object (tokens_at s r.next) r.place ∙ d.members_after; onward = omega (arith, w.onward, k.onward, k.some, d.onward) }
-
-    pub less_array : r.kind ≡ Array → length s - e.next < length s - at
-    less_array q = let k = piece_takes t Array q in omega (arith, k.onward, k.some, d.onward, d.inside)
-
-    pub less_object : r.kind ≡ Object → length s - e.next < length s - at
-    less_object q = let k = piece_takes t Object q in omega (arith, k.onward, k.some, d.onward, d.inside)
+    pub less_container : (r.kind ≡ Array) ⊎ (r.kind ≡ Object) → length s - e < length s - at
+    less_container (inl q) = less (piece_takes t Array q)
+    less_container (inr q) = less (piece_takes t Object q)
 
   scalar_on : (v : Json) → tokens_at s at ≡ scalar v ∷ tokens_at s r.next → Taken s at r.place r.next → Searching s from r.next
   scalar_on v e k = record { same = from_tokens _ e ∙ by_scalar (tokens_at s r.next) v ∙ sym (members_are s r.next); onward = omega (arith, w.onward, k.onward, k.some) }
@@ -102,40 +92,14 @@ module _ {s : List ℕ} {from at : ℕ} (w : Searching s from at) {r : Piece} (t
   scalar_less : Taken s at r.place r.next → length s - r.next < length s - at
   scalar_less k = omega (arith, k.onward, k.some, k.inside)
 
-  pub searching_string : r.kind ≡ String → Searching s from r.next
-  searching_string q = scalar_on _ (piece_is t String q) (piece_takes t String q)
+  pub searching_scalar : (r.kind ≡ String) ⊎ (r.kind ≡ Number) ⊎ (r.kind ≡ Literal) → Searching s from r.next
+  searching_scalar (inl q) = scalar_on _ (piece_is t String q) (piece_takes t String q)
+  searching_scalar (inr (inl q)) = scalar_on _ (piece_is t Number q) (piece_takes t Number q)
+  searching_scalar (inr (inr q)) = scalar_on _ (piece_is t Literal q) (piece_takes t Literal q)
 
-  pub searching_number : r.kind ≡ Number → Searching s from r.next
-  searching_number q = scalar_on _ (piece_is t Number q) (piece_takes t Number q)
+  pub less_scalar : (r.kind ≡ String) ⊎ (r.kind ≡ Number) ⊎ (r.kind ≡ Literal) → length s - r.next < length s - at
+  less_scalar (inl q) = scalar_less (piece_takes t String q)
+  less_scalar (inr (inl q)) = scalar_less (piece_takes t Number q)
+  less_scalar (inr (inr q)) = scalar_less (piece_takes t Literal q)
 
-  pub searching_literal : r.kind ≡ Literal → Searching s from r.next
-  searching_literal q = scalar_on _ (piece_is t Literal q) (piece_takes t Literal q)
-
-  pub less_string : r.kind ≡ String → length s - r.next < length s - at
-  less_string q = scalar_less (piece_takes t String q)
-
-  pub less_number : r.kind ≡ Number → length s - r.next < length s - at
-  less_number q = scalar_less (piece_takes t Number q)
-
-  pub less_literal : r.kind ≡ Literal → length s - r.next < length s - at
-  less_literal q = scalar_less (piece_takes t Literal q)
-
-pub ruleset searching = (
-  searching_start,
-  searching_none,
-  searching_close,
-  searching_name,
-  inside_array,
-  inside_object,
-  searching_array,
-  searching_object,
-  less_array,
-  less_object,
-  searching_string,
-  searching_number,
-  searching_literal,
-  less_string,
-  less_number,
-  less_literal,
-  rules,
-)
+pub ruleset searching = (searching_start, searching_none, searching_name, inside_container, searching_container, less_container, searching_scalar, less_scalar, rules)

@@ -3,7 +3,7 @@
 --     array_piece, object_piece, close-piece, name_piece, string_piece, number_piece, literal_piece, no_piece    what is found
 --     piece_from    a token behind separators
 --     piece_is, piece-taken    what a token that was found says, by its kind
-use Rattle.std.specs.Prelude.{◌≡◌, refl, Bool, true, false, List, [], ◌∷◌, eqb, length, get_or, take, drop}
+use Rattle.std.specs.Prelude.{◌≡◌, refl, Bool, true, false, List, ◌∷◌, eqb, length, get_or, drop}
 use Rattle.std.proofs.Math.Path.{sym}
 use Rattle.std.proofs.Common.{ap, subst, ◌∙◌, arith, drop-drop, rules, ne_eqb}
 use Prim.{tt}
@@ -19,14 +19,14 @@ use Rattle.source.specs.laws.Facts.{rest_part}
 use Rattle.source.specs.laws.Quoted.{rest_quoted}
 use Rattle.json_text.specs.Bytes.{begin_array, begin_object, quotation_mark, name_separator}
 use Rattle.json_text.specs.Strings.{quoted_length}
-use Rattle.json_text.specs.Tree.{Json, string, number, literal, Token, name, scalar, is_closing, is_separator, is_scalar}
+use Rattle.json_text.specs.Tree.{string, number, literal, name, scalar, is_closing, is_separator, is_scalar}
 use Rattle.read_json.specs.TreeAt.{tokens_at, word_at}
 use Rattle.read_json.specs.laws.TreeAt.{tokens_past, at_separator, at_array, at_object, at_closing, at_string, at_word}
 use Rattle.read_json.specs.Ends.{EndAt}
 use Rattle.read_json.specs.Pieces.{Passed, BeginsWord, piece_by, Taken, Takes, PieceAt}
 use Rattle.read_json.specs.declared.Piece.{Piece}
 use Rattle.read_json.specs.declared.PieceKind.{PieceKind}
-use Rattle.read_json.specs.declared.PieceKind.TheVariants.{None, Array, Object, Close, Name, String, Number, Literal}
+use Rattle.read_json.specs.declared.PieceKind.TheVariants.{Absent, Array, Object, Close, Name, String, Number, Literal}
 
 -- ---- separators
 
@@ -131,12 +131,12 @@ module _ (s : List ℕ) (p : ℕ) (h : p < length s) where
       unfolding pick
       number_piece y = record { is = by_word ∙ rw (← e, y); takes = word_taken }
 
-pub no_piece : (s : List ℕ) (at p n : ℕ) → Passed s at p → length s ≤ p → PieceAt s at (record { kind = None; place = p; next = n })
+pub no_piece : (s : List ℕ) (at p n : ℕ) → Passed s at p → length s ≤ p → PieceAt s at (record { kind = Absent; place = p; next = n })
 no_piece s at p n w h = record { is = w.same ∙ tokens_past s p h; takes = tt }
 
 -- behind separators
 takes_from : (k : PieceKind) (s : List ℕ) (at p q n : ℕ) → at ≤ p → Takes k s p q n → Takes k s at q n
-takes_from None s at p q n l t = tt
+takes_from Absent s at p q n l t = tt
 takes_from Array s at p q n l t = record { onward = omega (arith, t.onward); some = t.some; inside = t.inside }
 takes_from Object s at p q n l t = record { onward = omega (arith, t.onward); some = t.some; inside = t.inside }
 takes_from Close s at p q n l t = record { onward = omega (arith, t.onward); some = t.some; inside = t.inside }

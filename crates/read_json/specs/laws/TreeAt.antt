@@ -2,18 +2,17 @@
 --     at_separator, at_array, at_object, at_closing, at_string, at_word
 --     tokens_past     past the end there are none;   elements_past, members_past
 --     elements_are, members_are    by the tokens
-use Rattle.std.specs.Prelude.{◌≡◌, Bool, true, false, ℕ, zero, suc, ◌+◌, ◌≤◌, ◌<◌, eqb, length, get_or, drop}
+use Rattle.std.specs.Prelude.{◌≡◌, true, false, ℕ, zero, suc, ◌+◌, ◌≤◌, ◌<◌, length, get_or, drop}
 use Rattle.std.proofs.Math.Path.{refl, ap}
-use Rattle.std.proofs.Common.{sym, ◌∙◌, arith, drop_of_length-le, drop-drop}
+use Rattle.std.proofs.Common.{◌∙◌, arith, drop_of_length-le, drop-drop}
 use mathlib.Core.List.{List, [], ◌∷◌}
-use Rattle.std.proofs.Math.Seq.{drop-nil}
 use borrow.Author.Tests.{ne_eqb}
 use Rattle.octets.specs.Pick.{pick, ◌or◌}
 use Rattle.octets.specs.laws.Scan.{drop_next}
 use Rattle.octets.specs.Scan.{span_len}
 use Rattle.json_text.specs.Bytes.{begin_array, begin_object, quotation_mark}
 use Rattle.json_text.specs.Strings.{quoted_length}
-use Rattle.json_text.specs.Tree.{Token, opens_array, opens_object, closes, is_closing, is_separator, is_scalar, string_token, word_token, tokens_by, scan, elements, members, no_elements, no_members}
+use Rattle.json_text.specs.Tree.{opens_array, opens_object, closes, is_closing, is_separator, is_scalar, string_token, word_token, tokens_by, scan, elements, members, no_elements, no_members}
 use Rattle.read_json.specs.TreeAt.{tokens_at, elements_at, members_at}
 use Rattle.read_json.specs.Pieces.{BeginsWord}
 

@@ -2,10 +2,9 @@
 --     follow_inner ..     a property may stand behind subcomponents, or not
 --     hold_known ..       it may stand in the component
 --     property_held ..    the kind of its line
-use Rattle.std.specs.Prelude.{◌≡◌, Bool, true, false, not, List, ℕ, ◌≤◌, ◌<◌, eqb, ltb, length}
+use Rattle.std.specs.Prelude.{◌≡◌, Bool, true, false, not, List, ℕ, ◌≤◌, ◌<◌, eqb, ltb, length, Option, option_map, None, Some, Ok, Err}
 use Rattle.std.proofs.Math.Path.{refl, sym}
 use Rattle.std.proofs.Common.{ap, ◌∙◌, arith, eq-eqb, lt-ltb, le-ltb}
-use Rattle.std.proofs.Math.Option.{Option}
 use Rattle.std.proofs.Math.ListN.{length-map}
 use Rattle.octets.specs.Ascii.{ascii}
 use Rattle.octets.specs.Pick.{pick, ◌and◌, ◌or◌}
@@ -14,7 +13,6 @@ use Rattle.octets.specs.Class.{upper}
 use Rattle.octets.specs.Words.{same}
 use Rattle.names.specs.Table.{place_of}
 use Rattle.names.specs.laws.Table.{one_of_place}
-use Rattle.calendar.specs.Refusal.{refusal_at}
 use Rattle.source.specs.Source.{rest}
 use Rattle.schema.specs.Components.{component_names}
 use Rattle.schema.specs.Properties.{property_names, is_known_property}
@@ -22,8 +20,9 @@ use Rattle.schema.specs.Coded.{row_at}
 use Rattle.schema.specs.Columns.{stands_at}
 use Rattle.schema.specs.laws.Columns.{number_place, stand_place, row_stands}
 use Rattle.schema.specs.laws.Sets.{timezone_place}
-use Rattle.schema.specs.Completing.{action_names}
+use Rattle.schema.specs.Completing.{action_named}
 use Rattle.schema.specs.Property as property
+use Rattle.schema.specs.declared.Action.{Action}
 use Rattle.schema.specs.declared.table.Row.{Row}
 use Rattle.read_text_line.specs.Cursor.{params_at}
 use Rattle.read_text_line.specs.Decoded.{decoded_parameter, decoded_line}
@@ -36,12 +35,14 @@ use Rattle.text.specs.Nesting.{may_hold}
 use Rattle.text.specs.LineKind.{open_as, held_by, property_kind}
 use Rattle.read_text_property.specs.Faults.{fault_of, FaultIs}
 use Rattle.read_text_property.specs.declared.LineFault.{LineFault}
-use Rattle.read_text_property.specs.declared.LineFault.TheVariants.{Parameter, Encoding, Value, None}
+use Rattle.read_text_property.specs.declared.LineFault.TheVariants.{Parameter, Encoding, Value}
+use Rattle.refusals.specs.Fault.{fault_at}
+use Rattle.refusals.specs.declared.Refusal.TheVariants.{Frame, Parameter as BadParameter, Value as BadValue}
 use Rattle.edition.specs.declared.Edition.{Edition}
 use Rattle.read_text.specs.Places.{NameAt, PlaceOf}
 use Rattle.read_text.specs.laws.Action.{action_read}
 use Rattle.read_text.specs.Kinds.{KindIs}
-use Rattle.read_text.specs.declared.Kind.TheVariants.{Holds, Faulty}
+use Rattle.read_text.specs.declared.Kind.TheVariants.{Holds}
 
 -- ---- where it may stand
 
@@ -81,36 +82,32 @@ module _ (ed : Edition) where
   -- ---- its line
 
   module _ (v : Bool) (m : ℕ) (s : List ℕ) (c : LineCursors) (w n : List ℕ) {row : Row} (inner : Bool) {b : Bool} (e : row ≡ row_at (place_of (upper w) property_names)) (q : b ≡ may_hold (upper w) (open_as n inner)) where
-    pub property_not : b ≡ false → KindIs (PlaceOf m s c) v m s (property_kind n inner (decoded_line ed (line_from w m s c))) (Faulty 6 c.name)
-    unfolding refusal_at
+    pub property_not : b ≡ false → KindIs (PlaceOf m s c) v m s (property_kind n inner (decoded_line ed (line_from w m s c))) (Err (fault_at Frame c.name))
     property_not g = record { place = line_start; is = pick_no _ _ _ (sym q ∙ g); there = refl }
 
-    module _ {f : LineFault} (g : b ≡ true) (u : FaultIs (property_fault n (decoded_line ed (line_from w m s c))) f) where
-      fault_as : (x : LineFault) → f ≡ x → property_fault n (decoded_line ed (line_from w m s c)) ≡ fault_of x
-      fault_as x z = sym u.is ∙ ap fault_of z
+    module _ {f : Option LineFault} (g : b ≡ true) (u : FaultIs (property_fault n (decoded_line ed (line_from w m s c))) f) where
+      fault_as : (x : Option LineFault) → f ≡ x → property_fault n (decoded_line ed (line_from w m s c)) ≡ option_map fault_of x
+      fault_as x z = sym u.is ∙ ap (option_map fault_of) z
 
-      kind_as : (x : LineFault) → f ≡ x → property_kind n inner (decoded_line ed (line_from w m s c)) ≡ held_by (fault_of x) (property_of n (decoded_line ed (line_from w m s c)))
+      kind_as : (x : Option LineFault) → f ≡ x → property_kind n inner (decoded_line ed (line_from w m s c)) ≡ held_by (option_map fault_of x) (property_of n (decoded_line ed (line_from w m s c)))
       kind_as x z = pick_yes _ _ _ (sym q ∙ g) ∙ ap (λ (o : Option Fault). held_by o (property_of n (decoded_line ed (line_from w m s c)))) (fault_as x z)
 
-      pub property_parameter : {i r : ℕ} → f ≡ Parameter i → (i < length (params_at m s c.parameters) → NameAt m s c.parameters i r) →
-          KindIs (PlaceOf m s c) v m s (property_kind n inner (decoded_line ed (line_from w m s c))) (Faulty 7 r)
-      unfolding refusal_at
+      pub property_parameter : {i r : ℕ} → f ≡ Some (Parameter i) → (i < length (params_at m s c.parameters) → NameAt m s c.parameters i r) →
+          KindIs (PlaceOf m s c) v m s (property_kind n inner (decoded_line ed (line_from w m s c))) (Err (fault_at BadParameter r))
       property_parameter {i} z x = record {
         place = parameter_name i;
-        is = kind_as (Parameter i) z;
-        there = x (let j = length-map (params_at m s c.parameters) (decoded_parameter ed) in let y = fault_within n (decoded_line ed (line_from w m s c)) i (fault_as (Parameter i) z) in omega (arith, j, y));
+        is = kind_as (Some (Parameter i)) z;
+        there = x (let j = length-map (params_at m s c.parameters) (decoded_parameter ed) in let y = fault_within n (decoded_line ed (line_from w m s c)) i (fault_as (Some (Parameter i)) z) in omega (arith, j, y));
       }
 
-      pub property_encoding : f ≡ Encoding → KindIs (PlaceOf m s c) v m s (property_kind n inner (decoded_line ed (line_from w m s c))) (Faulty 7 c.value)
-      unfolding refusal_at
-      property_encoding z = record { place = value_start; is = kind_as Encoding z; there = refl }
+      pub property_encoding : f ≡ Some Encoding → KindIs (PlaceOf m s c) v m s (property_kind n inner (decoded_line ed (line_from w m s c))) (Err (fault_at BadParameter c.value))
+      property_encoding z = record { place = value_start; is = kind_as (Some Encoding) z; there = refl }
 
-      pub property_value : f ≡ Value → KindIs (PlaceOf m s c) v m s (property_kind n inner (decoded_line ed (line_from w m s c))) (Faulty 8 c.value)
-      unfolding refusal_at
-      property_value z = record { place = value_start; is = kind_as Value z; there = refl }
+      pub property_value : f ≡ Some Value → KindIs (PlaceOf m s c) v m s (property_kind n inner (decoded_line ed (line_from w m s c))) (Err (fault_at BadValue c.value))
+      property_value z = record { place = value_start; is = kind_as (Some Value) z; there = refl }
 
-      pub property_held : {a : ℕ} → f ≡ None → a ≡ pick (eqb row.number property.ACTION) (place_of (upper (rest m s c.value)) action_names) 3 →
-          KindIs (PlaceOf m s c) v m s (property_kind n inner (decoded_line ed (line_from w m s c))) (Holds row.number a)
+      pub property_held : {a : Option Action} → f ≡ None → a ≡ pick (eqb row.number property.ACTION) (action_named (upper (rest m s c.value))) None →
+          KindIs (PlaceOf m s c) v m s (property_kind n inner (decoded_line ed (line_from w m s c))) (Ok (Holds row.number a))
       unfolding pick property_of
       property_held {a} z y = record {
         property = property_of n (decoded_line ed (line_from w m s c));

@@ -1,7 +1,7 @@
 -- Names of components.
 --     component_upper    a name in capitals is one exactly if it is one as it stands
 --     naming, comparing  the rules of code that tests a name, and that compares two
-use Rattle.std.specs.Prelude.{◌≡◌, Bool, true, ℕ, suc, ◌-◌, eqb, drop}
+use Rattle.std.specs.Prelude.{◌≡◌, Bool, true, ℕ, suc, ◌-◌, drop}
 use Rattle.std.proofs.Math.Path.{refl, sym, ap}
 use Rattle.std.proofs.Common.{◌∙◌, arith, rules, eq-eqb, ne_eqb, le-leb}
 use Rattle.std.proofs.Math.Bool.{false}

@@ -1,7 +1,7 @@
 -- Laws of what specs/Places.antt defines.
 --     Passing          parameters passed one after another;   passing_start, passing_more, passing_end: its laws
 --     place_offset     a place by the line's cursors is that place in its bytes;   place_in_text: and in its text
-use Rattle.std.specs.Prelude.{◌≡◌, Bool, true, false, take}
+use Rattle.std.specs.Prelude.{◌≡◌, true, take, Option, None, Some, Result, Ok, Err}
 use Rattle.std.proofs.Math.Path.{refl, ap}
 use Rattle.std.proofs.Common.{sym, subst, ◌∙◌}
 use mathlib.Core.List.{List, [], ◌∷◌}
@@ -21,7 +21,7 @@ use Rattle.read_text_line.specs.Write.{write_parameter}
 use Rattle.read_text_line.specs.laws.Accepted.{next_param_read}
 use Rattle.read_text_line.specs.Items.{items}
 use Rattle.read_text_line.specs.laws.Items.{items-none, items_bad}
-use Rattle.read_text_line.specs.laws.Repeating.{item_got, param_takes}
+use Rattle.read_text_line.specs.laws.Repeating.{item_got, item_to, param_takes}
 use Rattle.read_text_line.specs.Cursor.{Onward, params_at}
 use Rattle.read_text_line.specs.laws.Cursor.{onward_here, onward_both, onward_byte}
 use Rattle.read_text_line.specs.Params.{ParamOf}
@@ -31,9 +31,9 @@ use Rattle.read_text_line.specs.LineEnd.{LineEnds}
 use Rattle.read_text_line.specs.laws.LineEnd.{index_on}
 use Rattle.read_text_line.specs.Ready.{Ready}
 use Rattle.read_text_line.specs.laws.Ready.{line_end_inside, line_count, line_inside}
-use Rattle.read_text_line.specs.declared.ParamRead.{ParamRead}
+use Rattle.read_text_line.specs.declared.Malformed.{Malformed}
+use Rattle.read_text_line.specs.declared.ParameterCursors.{ParameterCursors}
 use Rattle.read_text_line.specs.declared.LineCursors.{LineCursors}
-use Rattle.read_text_line.specs.declared.LineRead.TheVariants.{Line}
 use Rattle.text.specs.Faults.{Where, line_start, parameter_name, value_start, left_by, behind, value_in, offset}
 use Rattle.read_text.specs.Places.{NameAt, PlaceOf, OffsetAt, PlaceAt}
 
@@ -49,29 +49,25 @@ pub passing_start : (m : ℕ) (s : List ℕ) (e i : ℕ) → i < length (params_
 passing_start m s e i h = record { is = refl; more = h; to = onward_here e }
 
 module _ {m : ℕ} {s : List ℕ} {e i c left : ℕ} (p : Passing m s e i c left) where
-  module _ {r : ParamRead} (a : ParamOf next_param m s c r) where
+  module _ {r : Result (Option ParameterCursors) Malformed} (a : ParamOf next_param m s c r) where
     none_left : {X : Type 0} → params_at m s c ≡ [] → X
     none_left h = let z : length (params_at m s c) ≡ 0 = ap length h in let l = p.more in absurd (omega (arith, z, l))
 
-    there : (b : Bool) → r.there ≡ b → b ≡ true
-    there true h = refl
-    there false h = none_left (param_over a h)
+    pub passing_over : {X : Type 0} → r ≡ Ok None → X
+    passing_over h = none_left (param_over a h)
 
-    sound : (b : Bool) → r.ok ≡ b → b ≡ true
-    sound true h = refl
-    sound false h = none_left (param_fault a (there r.there refl) h)
+    pub passing_fault : {X : Type 0} {x : Malformed} → r ≡ Err x → X
+    passing_fault h = none_left (param_fault a h)
 
-    pub passing_more : 0 < left → Passing m s e i r.next (left - 1)
+    pub passing_more : {v : ParameterCursors} → r ≡ Ok (Some v) → 0 < left → Passing m s e i v.next (left - 1)
     unfolding behind
-    passing_more h =
-        let t = there r.there refl in
-        let k = sound r.ok refl in
+    passing_more k h =
         let z : left ≡ suc (left - 1) = omega arith in
-        let n = ap length (param_more a t k) in
+        let n = ap length (param_more a k) in
         record {
-          is = p.is ∙ ap (λ (j : ℕ). behind j (rest m s c)) z ∙ ap (λ (o : One RawParameter). behind (left - 1) (left_by o)) (item_got a.item t k);
+          is = p.is ∙ ap (λ (j : ℕ). behind j (rest m s c)) z ∙ ap (λ (o : One RawParameter). behind (left - 1) (left_by o)) (item_got a.item k);
           more = let l = p.more in omega (arith, n, l);
-          to = onward_both p.to a.item.to;
+          to = onward_both p.to (item_to a.item k);
         }
 
 -- a parameter begins with a semicolon
@@ -129,7 +125,7 @@ pub offset_start : (m : ℕ) (s : List ℕ) (at : ℕ) → OffsetAt m s at line_
 unfolding offset
 offset_start m s at = record { is = omega arith; to = onward_here at }
 
-module _ {m : ℕ} {s : List ℕ} {at : ℕ} {l : LineCursors} (y : cuts m ≡ true) (a : LineAt m s at (Line l)) where
+module _ {m : ℕ} {s : List ℕ} {at : ℕ} {l : LineCursors} (y : cuts m ≡ true) (a : LineAt m s at (Some l)) where
   parameters_at : Onward m s at l.parameters
   parameters_at = subst (λ (n : ℕ). Onward m s n l.parameters) a.parts.0 (name_onward a.parts.1.name)
 

@@ -1,9 +1,8 @@
 -- What is read as a content line is one, and the bytes are those that it is written with.
 --     content_line_accepted      what is read is a content line of the grammar
 --     content_line_write_back    what is read is written as it stood
-use Rattle.std.specs.Prelude.{◌≡◌, refl, true, false, List, ◌∷◌, ℕ}
+use Rattle.std.specs.Prelude.{◌≡◌, refl, true, false, List, ◌∷◌, ℕ, None, Some}
 use Rattle.std.proofs.Common.{ap, ◌∙◌}
-use Rattle.std.proofs.Math.Option.{none, some}
 use Rattle.octets.specs.Pick.{pick}
 use Rattle.octets.specs.laws.Pick.{and_yes, pick_case}
 use Rattle.octets.specs.Scan.{all_of}
@@ -115,15 +114,15 @@ next_param_read s p r =
 -- ---- a content line
 
 -- a value behind a name and parameters
-rest_read : (n t : List ℕ) (l : ContentLine) → is_name n ≡ true → with_value (many next_param t) n ≡ some l → ReadLine l (n ⊕ t)
+rest_read : (n t : List ℕ) (l : ContentLine) → is_name n ≡ true → with_value (many next_param t) n ≡ Some l → ReadLine l (n ⊕ t)
 unfolding with_value is_content_line write_content_line
 rest_read n t l hn = go (many next_param t) refl
   where
-    go : (o : All RawParameter) → many next_param t ≡ o → with_value o n ≡ some l → ReadLine l (n ⊕ t)
+    go : (o : All RawParameter) → many next_param t ≡ o → with_value o n ≡ Some l → ReadLine l (n ⊕ t)
     go (ok ps u) k =
         let j = many_read next_param write_param (λ p. is_raw_parameter p ≡ true) next_param_read t ps u k in
-        byte_case (λ o. o ≡ some l → ReadLine l (n ⊕ t)) 58 u (λ v. provided (all_of is_value_char v) (record { name = n; parameters = ps; value = v })) none
-        (λ v q. pick_case (λ o. o ≡ some l → ReadLine l (n ⊕ t)) (all_of is_value_char v) (some (record { name = n; parameters = ps; value = v })) none
+        byte_case (λ o. o ≡ Some l → ReadLine l (n ⊕ t)) 58 u (λ v. provided (all_of is_value_char v) (record { name = n; parameters = ps; value = v })) None
+        (λ v q. pick_case (λ o. o ≡ Some l → ReadLine l (n ⊕ t)) (all_of is_value_char v) (Some (record { name = n; parameters = ps; value = v })) None
         (λ h e.
         let x : record { name = n; parameters = ps; value = v } ≡ l = cc in
         rw (← x) (record { valid = and_yes _ _ hn (and_yes _ _ (every_of_each is_raw_parameter ps j.0) h); written = ap (λ (w : List ℕ). n ⊕ w) (joined_all write_parameter ps (58 ∷ v) ∙ rw (q, j.1)) }))
@@ -131,16 +130,16 @@ rest_read n t l hn = go (many next_param t) refl
         none-some
     go (no u) k = none-some
 
-line_read : (s : List ℕ) (l : ContentLine) → content_line s ≡ some l → ReadLine l s
+line_read : (s : List ℕ) (l : ContentLine) → content_line s ≡ Some l → ReadLine l s
 unfolding content_line
 line_read s l =
     let n : List ℕ = run_of is_name_char s in
-    pick_case (λ o. o ≡ some l → ReadLine l s) (is_empty n) none (with_value (many next_param (after_run is_name_char s)) n)
+    pick_case (λ o. o ≡ Some l → ReadLine l s) (is_empty n) None (with_value (many next_param (after_run is_name_char s)) n)
     (λ h. none-some)
     (λ h e. rw run_joined at (rest_read n (after_run is_name_char s) l (run_name s h) e))
 
-pub content_line_accepted : (s : List ℕ) (l : ContentLine) → content_line s ≡ some l → is_content_line l ≡ true
+pub content_line_accepted : (s : List ℕ) (l : ContentLine) → content_line s ≡ Some l → is_content_line l ≡ true
 content_line_accepted s l e = (line_read s l e).valid
 
-pub content_line_write_back : (s : List ℕ) (l : ContentLine) → content_line s ≡ some l → write_content_line l ≡ s
+pub content_line_write_back : (s : List ℕ) (l : ContentLine) → content_line s ≡ Some l → write_content_line l ≡ s
 content_line_write_back s l e = (line_read s l e).written

@@ -1,9 +1,9 @@
 -- Laws of what specs/Carried.antt defines.
 --     carried_run     whatever follows a name does not matter
-use Rattle.std.specs.Prelude.{◌≡◌, Bool, ℕ, suc, take}
+use Rattle.std.specs.Prelude.{◌≡◌, Bool, ℕ, suc, take, Option, None, Some, Result, Ok, Err}
 use Rattle.std.proofs.Math.Path.{refl, sym}
 use Rattle.std.proofs.Common.{◌∙◌}
-use Rattle.std.proofs.Math.Bool.{true, false}
+use Rattle.std.proofs.Math.Bool.{true, false, not}
 use Rattle.std.proofs.lemmas.Bool.{false≢true}
 use mathlib.Core.List.{List, [], ◌∷◌}
 use Rattle.std.proofs.Math.Dec.{eqb}
@@ -26,7 +26,8 @@ use Rattle.read_text_line.specs.Cursor.{params_at}
 use Rattle.read_text_line.specs.Params.{ParamOf}
 use Rattle.read_text_line.specs.laws.Params.{param_more, param_over, param_fault}
 use Rattle.read_text_line.specs.Carried.{carries_name}
-use Rattle.read_text_line.specs.declared.ParamRead.{ParamRead}
+use Rattle.read_text_line.specs.declared.Malformed.{Malformed}
+use Rattle.read_text_line.specs.declared.ParameterCursors.{ParameterCursors}
 
 -- ---- by the unit at a cursor
 
@@ -78,14 +79,13 @@ module _ (n : List ℕ) {a : Bool} (p : a ≡ starts_off_name n) where
   unfolding is_carried_name pick ◌or◌
   carried_off h = rw (sym p ∙ h)
 
-  module _ {b : Bool} (q : b ≡ starts (ascii "XML") (upper n)) (h : a ≡ false) where
-    pub carried_xml : b ≡ true → false ≡ is_carried_name n
-    unfolding is_carried_name pick ◌or◌
-    carried_xml k = rw (sym p ∙ h, sym q ∙ k)
-
-    pub carried_yes : b ≡ false → true ≡ is_carried_name n
-    unfolding is_carried_name pick ◌or◌
-    carried_yes k = rw (sym p ∙ h, sym q ∙ k)
+  pub carried_test : {b : Bool} → b ≡ starts (ascii "XML") (upper n) → a ≡ false → not b ≡ is_carried_name n
+  unfolding is_carried_name pick ◌or◌
+  carried_test {b} q h = rw (sym p ∙ h, ← q) (go b)
+    where
+      go : (t : Bool) → not t ≡ pick t false true
+      go true = refl
+      go false = refl
 
 -- ---- a name, and what follows it
 
@@ -122,23 +122,23 @@ carried_run xs = rw (off_run xs, starts_run (ascii "XML") xs refl)
 -- ---- all parameters of a line
 
 -- those from c on are left to test
-module _ {m : ℕ} {s : List ℕ} {c : ℕ} {v : Bool} {r : ParamRead} (e : v ≡ every carries_name (params_at m s c)) (a : ParamOf next_param m s c r) where
-  module _ {t : Bool} (h : r.there ≡ true) (k : r.ok ≡ true) (q : t ≡ is_carried_name (rest m s r.name)) where
-    pub carried_more : t ≡ true → v ≡ every carries_name (params_at m s r.next)
+module _ {m : ℕ} {s : List ℕ} {c : ℕ} {v : Bool} {r : Result (Option ParameterCursors) Malformed} (e : v ≡ every carries_name (params_at m s c)) (a : ParamOf next_param m s c r) where
+  module _ {t : Bool} {p : ParameterCursors} (h : r ≡ Ok (Some p)) (q : t ≡ is_carried_name (rest m s p.name)) where
+    pub carried_more : t ≡ true → v ≡ every carries_name (params_at m s p.next)
     unfolding every ◌and◌
-    carried_more z = e ∙ rw (param_more a h k, carried_run (rest m s r.name), ← q, z)
+    carried_more z = e ∙ rw (param_more a h, carried_run (rest m s p.name), ← q, z)
 
     pub carried_stop : t ≡ false → false ≡ v
     unfolding every ◌and◌
-    carried_stop z = sym (e ∙ rw (param_more a h k, carried_run (rest m s r.name), ← q, z))
+    carried_stop z = sym (e ∙ rw (param_more a h, carried_run (rest m s p.name), ← q, z))
 
-  pub carried_over : r.there ≡ false → true ≡ v
+  pub carried_over : r ≡ Ok None → true ≡ v
   unfolding every
   carried_over h = sym (e ∙ rw (param_over a h))
 
-  pub carried_fault : r.there ≡ true → r.ok ≡ false → true ≡ v
+  pub carried_fault : {x : Malformed} → r ≡ Err x → true ≡ v
   unfolding every
-  carried_fault h k = sym (e ∙ rw (param_fault a h k))
+  carried_fault h = sym (e ∙ rw (param_fault a h))
 
 -- the name of a line, and then its parameters
 module _ (xs : List ℕ) {t : Bool} (b : Bool) (q : t ≡ is_carried_name xs) where

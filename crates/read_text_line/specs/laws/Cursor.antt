@@ -1,9 +1,10 @@
 -- Laws of what specs/Cursor.antt defines.
 --     run_is, run_cut    what stands there
-use Rattle.std.specs.Prelude.{◌≡◌, Bool, ℕ, ◌-◌, ◌*◌, ◌<◌, eqb, length, take}
+use Rattle.std.specs.Prelude.{◌≡◌, Bool, ℕ, ◌-◌, ◌*◌, ◌<◌, eqb, length, take, Option, None, Some, Result, Ok, Err, IsErr}
 use Rattle.std.proofs.Math.Path.{refl, sym}
 use Rattle.std.proofs.Common.{◌∙◌, arith, rules}
 use Rattle.std.proofs.Math.Bool.{true, false}
+use Rattle.std.proofs.lemmas.Bool.{false≢true}
 use mathlib.Core.List.{List, [], ◌∷◌}
 use borrow.Author.Tests.{eq-eqb, ne_eqb, eqb-false}
 use Rattle.octets.specs.Pick.{pick}
@@ -16,7 +17,8 @@ use Rattle.octets.specs.Many.{One}
 use Rattle.source.specs.Source.{rest, spell, cuts, Reads}
 use Rattle.source.specs.laws.Facts.{rest_byte, cut_is, reach_here, reach_on}
 use Rattle.source.specs.declared.Step.{Step}
-use Rattle.read_text_line.specs.Cursor.{Onward, in_line, RunEnds, ItemAt}
+use Rattle.read_text_line.specs.Cursor.{Onward, OnwardTo, in_line, RunEnds, OnItem, ItemAt}
+use Rattle.read_text_line.specs.declared.Malformed.{Malformed}
 
 -- ---- cursors
 
@@ -93,16 +95,31 @@ run_as e q = rw e q
 
 pub ruleset passing = (passing_start, passing_more, passing_less, passing_stop, run_as, flag_yes, flag_no, rules)
 
+-- what is read from a later cursor on
+pub onward_then : {m : ℕ} {s : List ℕ} {a b : ℕ} (r : Result ℕ Malformed) → Onward m s a b → OnwardTo m s b r → OnwardTo m s a r
+onward_then (Ok c) p q = onward_both p q
+onward_then (Err e) p q = tt
+
+-- there is one fault only
+pub err_any : {T : Type 0} (r : Result T Malformed) (x : Malformed) → IsErr r → r ≡ Err x
+err_any (Ok v) x h = absurd (false≢true h)
+err_any (Err y) x h = refl
+
 -- ---- an item at a cursor
 
-module _ {A : Type 0} {p : List ℕ → One A} {m : ℕ} {s : List ℕ} {c : ℕ} {n : Step} (b : ℕ) (q : List ℕ → One A) (d : One A) (e : (xs : List ℕ) → p xs ≡ after_byte b xs q d) (r : Reads m s c n) where
+pub on_item : {C : Type 0} (P Q : C → Type 0) (r : Result (Option C) Malformed) → ((v : C) → P v → Q v) → OnItem r P → OnItem r Q
+on_item P Q (Ok (Some v)) f h = f v h
+on_item P Q (Ok None) f h = tt
+on_item P Q (Err e) f h = tt
+
+module _ {C A : Type 0} {p : List ℕ → One A} {m : ℕ} {s : List ℕ} {c : ℕ} {n : Step} {item : C → A} {behind : C → ℕ} (b : ℕ) (q : List ℕ → One A) (d : One A) (e : (xs : List ℕ) → p xs ≡ after_byte b xs q d) (t : Reads m s c n) where
   -- an item behind a byte
-  pub item_behind : {there ok : Bool} {a : A} {next : ℕ} → (b ≡ 256 → ⊥) → n.u ≡ b → ItemAt q m s n.next there ok a next → ItemAt p m s c there ok a next
-  item_behind h k i = record {
+  pub item_behind : {r : Result (Option C) Malformed} → (b ≡ 256 → ⊥) → n.u ≡ b → ItemAt q m s n.next item behind r → ItemAt p m s c item behind r
+  item_behind {r} h k i = record {
     fault = i.fault;
-    is = e (rest m s c) ∙ byte_at r b q d k h ∙ i.is;
-    to = onward_both (onward_byte r (λ z. h (sym k ∙ z))) i.to;
+    is = e (rest m s c) ∙ byte_at t b q d k h ∙ i.is;
+    to = on_item (λ (v : C). Onward m s n.next (behind v)) (λ (v : C). Onward m s c (behind v)) r (λ v o. onward_both (onward_byte t (λ z. h (sym k ∙ z))) o) i.to;
   }
 
-  pub item_not : (a : A) → d ≡ One.none → (n.u ≡ b → ⊥) → ItemAt p m s c false false a c
-  item_not a z k = record { fault = []; is = e (rest m s c) ∙ byte_not r b q d k ∙ z; to = onward_here c }
+  pub item_not : d ≡ One.none → (n.u ≡ b → ⊥) → ItemAt p m s c item behind (Ok None)
+  item_not z k = record { fault = []; is = e (rest m s c) ∙ byte_not t b q d k ∙ z; to = tt }

@@ -3,10 +3,8 @@
 --     is_spelled             a character of a value in an edition: of RFC 5545 alone a QSAFE-CHAR, with carets any but CR
 --     decoded_spelled, spelled_encoded    what is read has such characters, and what has them can be written
 --     map_empty              as many as were read
-use Rattle.std.specs.Prelude.{◌≡◌, refl, Bool, true, false, List, [], ◌∷◌, map, ℕ, eqb}
+use Rattle.std.specs.Prelude.{◌≡◌, refl, Bool, true, false, List, [], ◌∷◌, map, ℕ, eqb, Some, option_map}
 use Rattle.std.proofs.Common.{ap, ◌∙◌}
-use Rattle.std.proofs.Math.Option
-use Rattle.std.proofs.Math.Option.{some}
 use Rattle.octets.specs.Pick.{pick, ◌or◌}
 use Rattle.octets.specs.laws.Pick.{pick_second, or_neither, or_no}
 use Rattle.octets.specs.Words.{is_empty}
@@ -33,8 +31,8 @@ parameters_back ed (p ∷ ps) = rw (values_back ed p.values, parameters_back ed 
 pub decoded_encoded : (ed : Edition) (l : ContentLine) → decoded_line ed (encoded_line ed l) ≡ l
 decoded_encoded ed l = rw (parameters_back ed l.parameters)
 
-pub line_back : (ed : Edition) (l : ContentLine) → is_content_line (encoded_line ed l) ≡ true → read_line ed (write_line ed l) ≡ some l
-line_back ed l h = ap (Option.map (decoded_line ed)) (content_line_read_back (encoded_line ed l) h) ∙ ap some (decoded_encoded ed l)
+pub line_back : (ed : Edition) (l : ContentLine) → is_content_line (encoded_line ed l) ≡ true → read_line ed (write_line ed l) ≡ Some l
+line_back ed l h = ap (option_map (decoded_line ed)) (content_line_read_back (encoded_line ed l) h) ∙ ap Some (decoded_encoded ed l)
 
 -- ---- characters
 

@@ -1,7 +1,7 @@
 -- Laws of what specs/LineEnd.antt defines.
 --     line_first, line_none    what the lines are then;   index_on: places further on
 --     Seeking           the invariant of looking for a line's end;   seeking_plain: its rules over bytes as they stand
-use Rattle.std.specs.Prelude.{◌≡◌, Bool, take}
+use Rattle.std.specs.Prelude.{◌≡◌, Bool, take, None, Some}
 use Rattle.std.proofs.Math.Path.{refl, sym, ap}
 use Rattle.std.proofs.Common.{◌∙◌, get_or-drop, rules}
 use Rattle.std.proofs.Math.Bool.{true, false}
@@ -19,7 +19,7 @@ use Rattle.octets.specs.laws.Append.{append_none, append_empty, append_cons, app
 use Rattle.octets.specs.Words.{starts}
 use Rattle.octets.specs.Scan.{span_len, span_end}
 use Rattle.octets.specs.laws.Scan.{span_most, span_stopped}
-use Rattle.octets.specs.Block.{without, is_return}
+use Rattle.octets.specs.Find.{without, is_return}
 use Rattle.folding.specs.Unfold.{crlf}
 use Rattle.folding.specs.Lines.{whole, loose, lines_from, to_break}
 use Rattle.folding.specs.laws.Lines.{lines_at_break, first_loose}
@@ -29,7 +29,6 @@ use Rattle.source.specs.declared.Step.{Step}
 use Rattle.read_text_line.specs.Cursor.{Onward}
 use Rattle.read_text_line.specs.laws.Cursor.{onward_here, onward_both, onward_byte}
 use Rattle.read_text_line.specs.LineEnd.{index, lines_at, LineEnds, EndsLine}
-use Rattle.read_text_line.specs.declared.Ending.TheVariants.{Whole, Loose}
 
 -- ---- the lines
 
@@ -70,7 +69,7 @@ pub seeking_start : (m : ℕ) (s : List ℕ) (c : ℕ) → Seeking m s c c
 seeking_start m s c = record { line = []; is = sym (append_empty (rest m s c)); left = omega arith; to = onward_here c }
 
 module _ {m : ℕ} {s : List ℕ} {c₀ c : ℕ} {n : Step} (t : Seeking m s c₀ c) (p : Reads m s c n) where
-  pub seeking_none : n.u ≡ 256 → EndsLine m s c₀ Loose
+  pub seeking_none : n.u ≡ 256 → EndsLine m s c₀ None
   unfolding to_break
   seeking_none h =
       let e : rest m s c₀ ≡ t.line = t.is ∙ rw (rest_end p h) (append_none t.line) in
@@ -106,7 +105,7 @@ module _ {m : ℕ} {s : List ℕ} {c₀ c : ℕ} {n : Step} (t : Seeking m s c�
           go true false = rw (ne_eqb 10 k.u (λ z. e (sym z)))
           go false b = refl
 
-      pub seeking_found : {r : ℕ} → n.u ≡ 13 → k.u ≡ 10 → Settled m s k.next r → EndsLine m s c₀ (Whole c r)
+      pub seeking_found : {r : ℕ} → n.u ≡ 13 → k.u ≡ 10 → Settled m s k.next r → EndsLine m s c₀ (Some (record { end = c; next = r }))
       unfolding to_break starts pick ◌and◌
       seeking_found {r} a b g =
           let f : rest m s c ≡ 13 ∷ 10 ∷ rest m s r = rest_byte p h ∙ rw (a, rest_byte q (λ z. omega arith), b, g.is) in
@@ -122,10 +121,10 @@ module _ {m : ℕ} {s : List ℕ} {c₀ c : ℕ} {n : Step} (t : Seeking m s c�
 -- ---- the same over bytes as they stand: a CR is sought, and then LF
 
 -- what is left has no line's end
-seeking_over : {m : ℕ} {s : List ℕ} {c₀ c : ℕ} → Seeking m s c₀ c → to_break (rest m s c) ≡ length (rest m s c) → EndsLine m s c₀ Loose
+seeking_over : {m : ℕ} {s : List ℕ} {c₀ c : ℕ} → Seeking m s c₀ c → to_break (rest m s c) ≡ length (rest m s c) → EndsLine m s c₀ None
 seeking_over {m} {s} {c₀} {c} t h = let n = ap length t.is ∙ length_both t.line (rest m s c) in omega (arith, t.left, h, n)
 
-pub seeking_past : {s : List ℕ} {c₀ c : ℕ} → Seeking 0 s c₀ c → length s ≤ c → EndsLine 0 s c₀ Loose
+pub seeking_past : {s : List ℕ} {c₀ c : ℕ} → Seeking 0 s c₀ c → length s ≤ c → EndsLine 0 s c₀ None
 unfolding to_break
 seeking_past {s} {c₀} {c} t h = let e = rest_past 0 s c refl h in seeking_over t (rw e)
 
@@ -190,14 +189,14 @@ module _ {s : List ℕ} {c₀ c r : ℕ} (t : Seeking 0 s c₀ c) (h : c < lengt
       go true e q = eqb-true (get_or s r 0) 13 e
       go false e q = absurd (false≢true (sym q))
 
-  pub found_loose : length s - r < 2 → EndsLine 0 s c₀ Loose
+  pub found_loose : length s - r < 2 → EndsLine 0 s c₀ None
   found_loose l = seeking_over found_return (unfold rest pick in break_short (drop r s) (omega (arith, length-drop r s)))
 
   module _ (l : 2 ≤ length s - r) where
     return_step : Reads 0 s r (record { u = 13; next = r + 1 })
     return_step = plain_byte s r 13 (omega arith) (sym (at_return (omega arith))) (omega arith)
 
-    pub found_end : {b : ℕ} → (b ≡ get_or s (r + 1) 0) × (b < 256) → b ≡ 10 → EndsLine 0 s c₀ (Whole r (r + 2))
+    pub found_end : {b : ℕ} → (b ≡ get_or s (r + 1) 0) × (b < 256) → b ≡ 10 → EndsLine 0 s c₀ (Some (record { end = r; next = r + 2 }))
     found_end {b} q f =
         let k : r + 1 + 1 ≡ r + 2 = omega arith in
         rw (← k) (seeking_found found_return return_step (λ z. omega arith) (plain_byte s (r + 1) 10 (omega arith) (sym f ∙ q.0) (omega arith)) refl refl (settled_here 0 s (r + 1 + 1) (λ z. omega arith)))

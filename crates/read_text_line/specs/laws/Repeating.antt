@@ -2,7 +2,7 @@
 --     Takes p             an item takes at least a byte
 --     Walk                the loop's invariant;   walk_start, walk_more, walk_less, walk_end, walk_bad: its laws
 --     items_more, items-over      a walk over `items` again: one item more, or the end
-use Rattle.std.specs.Prelude.{◌≡◌, Bool, true, false, List, [], ◌∷◌, ℕ, ◌-◌, ◌*◌, ◌<◌, length}
+use Rattle.std.specs.Prelude.{◌≡◌, List, [], ◌∷◌, ℕ, ◌-◌, ◌*◌, ◌<◌, length, Option, None, Some, Result, Ok, Err}
 use Rattle.std.proofs.Common.{◌∙◌, arith}
 use Rattle.octets.specs.laws.Append.{length_both}
 use Rattle.octets.specs.Many.{One, got, bad, ok, no, cons, many}
@@ -16,6 +16,7 @@ use Rattle.read_text_line.specs.laws.Items.{items-got, items-none, items_bad}
 use Rattle.read_text_line.specs.Cursor.{Onward, ItemAt}
 use Rattle.read_text_line.specs.laws.Cursor.{onward_here, onward_both}
 use Rattle.read_text_line.specs.Repeating.{AllAt}
+use Rattle.read_text_line.specs.declared.Malformed.{Malformed}
 
 abbrev pub Takes : {A : Type 0} → (List ℕ → One A) → Type 0
 Takes {A} p = (xs : List ℕ) (a : A) (r : List ℕ) → p xs ≡ got a r → length r < length xs
@@ -36,45 +37,49 @@ pub record Walk {A : Type 0} (p : List ℕ → One A) (m : ℕ) (s : List ℕ) (
 pub walk_start : {A : Type 0} (p : List ℕ → One A) (m : ℕ) (s : List ℕ) (c : ℕ) → Walk p m s c c
 walk_start p m s c = record { good = λ r e. e; wrong = λ r e. e; to = onward_here c }
 
-module _ {A : Type 0} {p : List ℕ → One A} {m : ℕ} {s : List ℕ} {c : ℕ} {there fine : Bool} {a : A} {next : ℕ} (i : ItemAt p m s c there fine a next) where
-  pub item_got : there ≡ true → fine ≡ true → p (rest m s c) ≡ got a (rest m s next)
-  item_got e f = i.is ∙ rw (e, f)
+module _ {C A : Type 0} {p : List ℕ → One A} {m : ℕ} {s : List ℕ} {c : ℕ} {item : C → A} {behind : C → ℕ} {r : Result (Option C) Malformed} (i : ItemAt p m s c item behind r) where
+  pub item_got : {v : C} → r ≡ Ok (Some v) → p (rest m s c) ≡ got (item v) (rest m s (behind v))
+  item_got e = i.is ∙ rw e
 
-  pub item_none : there ≡ false → p (rest m s c) ≡ One.none
+  pub item_to : {v : C} → r ≡ Ok (Some v) → Onward m s c (behind v)
+  item_to e = rw e at i.to
+
+  pub item_none : r ≡ Ok None → p (rest m s c) ≡ One.none
   item_none e = i.is ∙ rw e
 
-  pub item_bad : there ≡ true → fine ≡ false → p (rest m s c) ≡ bad i.fault
-  item_bad e f = i.is ∙ rw (e, f)
+  pub item_bad : {x : Malformed} → r ≡ Err x → p (rest m s c) ≡ bad i.fault
+  item_bad e = i.is ∙ rw e
 
   module _ (t : Takes p) where
     -- ---- the walk over `items`
-    pub items_more : there ≡ true → fine ≡ true → items p (rest m s c) ≡ a ∷ items p (rest m s next)
-    items_more e f = items-got p (rest m s c) a (rest m s next) (item_got e f) (t _ _ _ (item_got e f))
+    pub items_more : {v : C} → r ≡ Ok (Some v) → items p (rest m s c) ≡ item v ∷ items p (rest m s (behind v))
+    items_more {v} e = items-got p (rest m s c) (item v) (rest m s (behind v)) (item_got e) (t _ _ _ (item_got e))
 
-    pub walk_less : there ≡ true → fine ≡ true → 4 * length s - next < 4 * length s - c
-    walk_less e f =
-        let k : length (rest m s next) < length (rest m s c) = t _ _ _ (item_got e f) in
-        let d : c ≡ next → ⊥ = λ (q : c ≡ next). let z : length (rest m s next) ≡ length (rest m s c) = rw q in omega arith in
-        omega (arith, i.to.onward, i.to.inside, d)
+    pub walk_less : {v : C} → r ≡ Ok (Some v) → 4 * length s - behind v < 4 * length s - c
+    walk_less {v} e =
+        let k : length (rest m s (behind v)) < length (rest m s c) = t _ _ _ (item_got e) in
+        let d : c ≡ behind v → ⊥ = λ (q : c ≡ behind v). let z : length (rest m s (behind v)) ≡ length (rest m s c) = rw q in omega arith in
+        let o : Onward m s c (behind v) = item_to e in
+        omega (arith, o.onward, o.inside, d)
 
-    many_more : there ≡ true → fine ≡ true → many p (rest m s c) ≡ cons a (many p (rest m s next))
-    many_more e f = many-got p (rest m s c) a (rest m s next) (item_got e f) (t _ _ _ (item_got e f))
+    many_more : {v : C} → r ≡ Ok (Some v) → many p (rest m s c) ≡ cons (item v) (many p (rest m s (behind v)))
+    many_more {v} e = many-got p (rest m s c) (item v) (rest m s (behind v)) (item_got e) (t _ _ _ (item_got e))
 
-    pub walk_more : {c₀ : ℕ} → Walk p m s c₀ c → there ≡ true → fine ≡ true → Walk p m s c₀ next
-    walk_more w e f = record {
-      good = λ r h. w.good r (many_more e f ∙ rw (h, items_more e f));
-      wrong = λ r h. w.wrong r (many_more e f ∙ rw h);
-      to = onward_both w.to i.to;
+    pub walk_more : {c₀ : ℕ} {v : C} → Walk p m s c₀ c → r ≡ Ok (Some v) → Walk p m s c₀ (behind v)
+    walk_more w e = record {
+      good = λ z h. w.good z (many_more e ∙ rw (h, items_more e));
+      wrong = λ z h. w.wrong z (many_more e ∙ rw h);
+      to = onward_both w.to (item_to e);
     }
 
-  pub items_none_here : there ≡ false → items p (rest m s c) ≡ []
+  pub items_none_here : r ≡ Ok None → items p (rest m s c) ≡ []
   items_none_here e = items-none p (rest m s c) (item_none e)
 
-  pub items_bad_here : there ≡ true → fine ≡ false → items p (rest m s c) ≡ []
-  items_bad_here e f = items_bad p (rest m s c) i.fault (item_bad e f)
+  pub items_bad_here : {x : Malformed} → r ≡ Err x → items p (rest m s c) ≡ []
+  items_bad_here e = items_bad p (rest m s c) i.fault (item_bad e)
 
-  pub walk_end : {c₀ : ℕ} → Walk p m s c₀ c → there ≡ false → AllAt p m s c₀ (record { ok = true; next = c })
+  pub walk_end : {c₀ : ℕ} → Walk p m s c₀ c → r ≡ Ok None → AllAt p m s c₀ (Ok c)
   walk_end w e = record { fault = []; is = w.good (rest m s c) (many-none p (rest m s c) (item_none e) ∙ rw (items_none_here e)); to = w.to }
 
-  pub walk_bad : {c₀ : ℕ} → Walk p m s c₀ c → there ≡ true → fine ≡ false → AllAt p m s c₀ (record { ok = false; next = c })
-  walk_bad w e f = record { fault = i.fault; is = w.wrong i.fault (many-bad p (rest m s c) i.fault (item_bad e f)); to = w.to }
+  pub walk_bad : {c₀ : ℕ} {x : Malformed} → Walk p m s c₀ c → r ≡ Err x → AllAt p m s c₀ (Err x)
+  walk_bad w e = record { fault = i.fault; is = w.wrong i.fault (many-bad p (rest m s c) i.fault (item_bad e)); to = tt }

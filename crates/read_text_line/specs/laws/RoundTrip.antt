@@ -1,9 +1,8 @@
 -- Content lines written and read back.
 --     content_line_read_back    what is written of a content line is read as that content line
-use Rattle.std.specs.Prelude.{◌≡◌, refl, Bool, true, false, List, [], ◌∷◌, map, ℕ, eqb}
+use Rattle.std.specs.Prelude.{◌≡◌, refl, Bool, true, false, List, [], ◌∷◌, map, ℕ, eqb, Some}
 use Rattle.std.proofs.Common.{sym, ◌∙◌, arith}
 use Rattle.std.proofs.lemmas.Bool.{false≢true}
-use Rattle.std.proofs.Math.Option.{none, some}
 use Rattle.octets.specs.Pick.{pick, ◌and◌, ◌or◌}
 use Rattle.octets.specs.laws.Pick.{and_both, eqb_apart, pick_second}
 use Rattle.octets.specs.Scan.{all_of}
@@ -130,7 +129,7 @@ no_parameter : (r : List ℕ) → next_param (58 ∷ r) ≡ One.none
 unfolding next_param after_byte pick
 no_parameter r = refl
 
-line_round : (n : List ℕ) (ps : List RawParameter) (v : List ℕ) → is_name n ≡ true → every is_raw_parameter ps ≡ true → all_of is_value_char v ≡ true → content_line (n ⊕ joined (map write_parameter ps) ⊕ 58 ∷ v) ≡ some (record { name = n; parameters = ps; value = v })
+line_round : (n : List ℕ) (ps : List RawParameter) (v : List ℕ) → is_name n ≡ true → every is_raw_parameter ps ≡ true → all_of is_value_char v ≡ true → content_line (n ⊕ joined (map write_parameter ps) ⊕ 58 ∷ v) ≡ Some (record { name = n; parameters = ps; value = v })
 unfolding is_name content_line with_value pick
 line_round n ps v hn hp hv =
     let q = pick_second (is_empty n) (all_of is_name_char n) hn in
@@ -138,7 +137,7 @@ line_round n ps v hn hp hv =
     let t : List ℕ = write_all write_param ps (58 ∷ v) in
     rw (joined_all write_parameter ps (58 ∷ v), run_front is_name_char n t q.1 i.1.name, after_front is_name_char n t q.1 i.1.name, q.0, i.0, byte_there, hv)
 
-pub content_line_read_back : (l : ContentLine) → is_content_line l ≡ true → content_line (write_content_line l) ≡ some l
+pub content_line_read_back : (l : ContentLine) → is_content_line l ≡ true → content_line (write_content_line l) ≡ Some l
 unfolding is_content_line write_content_line
 content_line_read_back l h =
     let p = and_both (is_name l.name) (every is_raw_parameter l.parameters and all_of is_value_char l.value) h in

@@ -2,7 +2,7 @@
 --     before-take          so many names from the front are those;   before_one: a name is one of them
 --     first_..             the first names of a list, compared one after another
 --     word_..              a value is one word, for code
-use Rattle.std.specs.Prelude.{◌≡◌, Bool, true, false, List, [], ◌∷◌, map, length, take}
+use Rattle.std.specs.Prelude.{◌≡◌, Bool, true, false, List, [], ◌∷◌, map, length, take, Option, Some, Result, Ok, Err}
 use Rattle.std.proofs.Math.Path.{refl, ap}
 use Rattle.std.proofs.Common.{sym, ◌∙◌}
 use Prim.Native.Nat.{ℕ, zero, suc, ◌+◌, ◌-◌, ◌≤◌, ◌<◌}
@@ -19,7 +19,8 @@ use Rattle.read_text_line.specs.Items.{items}
 use Rattle.read_text_line.specs.Decoded.{decoded_value, values_in}
 use Rattle.read_text_line.specs.laws.Decoded.{map_empty}
 use Rattle.read_text_line.specs.Values.{ValueAt}
-use Rattle.read_text_line.specs.declared.ParamAt.{ParamAt}
+use Rattle.read_text_line.specs.declared.Malformed.{Malformed}
+use Rattle.read_text_line.specs.declared.ValueCursors.{ValueCursors}
 use Rattle.text.specs.Parameters.{is_word}
 use Rattle.read_text_parameters.specs.Cutting.{name_cut}
 use Rattle.read_text_parameters.specs.Comparing.{onto}
@@ -75,16 +76,16 @@ module _ (w : List ℕ) where
 
 -- ---- one word, in the encoding u of a value
 
-module _ (ed : Edition) {m : ℕ} (y : cuts m ≡ true) (w : List ℕ) {s : List ℕ} {c : ℕ} {r : ParamAt} (v : ValueAt param_value m s c r) where
-  module _ {u : ℕ} (d : Decodes ed m u) {b : Bool} (h : r.ok ≡ true) (e : b ≡ same (name_cut u s r.from r.to) w) where
-    stands : b ≡ same (upper (decode ed (rest m (take r.to s) r.from))) w
-    stands = e ∙ ap (λ (l : List ℕ). same (upper l) w) (d.is (take r.to s) r.from)
+module _ (ed : Edition) {m : ℕ} (y : cuts m ≡ true) (w : List ℕ) {s : List ℕ} {c : ℕ} {r : Result (Option ValueCursors) Malformed} (v : ValueAt param_value m s c r) where
+  module _ {u : ℕ} (d : Decodes ed m u) {b : Bool} {vc : ValueCursors} (h : r ≡ Ok (Some vc)) (e : b ≡ same (name_cut u s vc.from vc.to) w) where
+    stands : b ≡ same (upper (decode ed (rest m (take vc.to s) vc.from))) w
+    stands = e ∙ ap (λ (l : List ℕ). same (upper l) w) (d.is (take vc.to s) vc.from)
 
-    pub word_one : {a : Bool} → b ≡ true → a ≡ is_empty (items next_value (rest m s r.next)) → a ≡ is_word w (values_in ed m s c)
-    word_one k f = and_go _ _ _ (sym stands ∙ k) (f ∙ sym (map_empty (decoded_value ed) (items next_value (rest m s r.next)))) ∙ sym (ap (λ (l : List ParamValue). is_word w (map (decoded_value ed) l)) (values_first y v h))
+    pub word_one : {a : Bool} → b ≡ true → a ≡ is_empty (items next_value (rest m s vc.next)) → a ≡ is_word w (values_in ed m s c)
+    word_one k f = and_go _ _ _ (sym stands ∙ k) (f ∙ sym (map_empty (decoded_value ed) (items next_value (rest m s vc.next)))) ∙ sym (ap (λ (l : List ParamValue). is_word w (map (decoded_value ed) l)) (values_first y v h))
 
     pub word_other : b ≡ false → false ≡ is_word w (values_in ed m s c)
     word_other k = and_stop _ _ (sym stands ∙ k) ∙ sym (ap (λ (l : List ParamValue). is_word w (map (decoded_value ed) l)) (values_first y v h))
 
-  pub word_none : r.ok ≡ false → false ≡ is_word w (values_in ed m s c)
+  pub word_none : {x : Malformed} → r ≡ Err x → false ≡ is_word w (values_in ed m s c)
   word_none h = sym (ap (λ (l : List ParamValue). is_word w (map (decoded_value ed) l)) (values_none y v h))

@@ -1,7 +1,7 @@
 -- Laws of what specs/Collecting.antt defines.
 --     compared_..               the first names are compared, none of them comes again
 --     Collecting s e f t k c    the names from the cursor e on are the k that are collected, and those from c on
-use Rattle.std.specs.Prelude.{◌≡◌, refl, Bool, true, false, List, [], ◌∷◌, ℕ, ◌+◌, ◌<◌, take}
+use Rattle.std.specs.Prelude.{◌≡◌, refl, Bool, true, false, List, [], ◌∷◌, ℕ, ◌+◌, ◌<◌, take, Option, None, Some, Result, Ok, Err}
 use Rattle.std.proofs.Math.Path.{sym}
 use Rattle.std.proofs.Common.{◌∙◌, arith}
 use Rattle.octets.specs.Pick.{pick}
@@ -10,7 +10,8 @@ use Rattle.read_text_line.specs.ContentLine.{RawParameter, next_param}
 use Rattle.read_text_line.specs.Cursor.{params_at}
 use Rattle.read_text_line.specs.Params.{ParamOf}
 use Rattle.read_text_line.specs.laws.Params.{param_less}
-use Rattle.read_text_line.specs.declared.ParamRead.{ParamRead}
+use Rattle.read_text_line.specs.declared.Malformed.{Malformed}
+use Rattle.read_text_line.specs.declared.ParameterCursors.{ParameterCursors}
 use Rattle.source.specs.Source.{cuts}
 use Rattle.distinct.specs.Listed.{word_at, listed}
 use Rattle.distinct.specs.Keeping.{Keeps}
@@ -28,17 +29,17 @@ pub collect_start : (m : ℕ) (s : List ℕ) (e : ℕ) (f t : List ℕ) → Coll
 unfolding listed
 collect_start m s e f t = record { are = refl }
 
-module _ {m : ℕ} {s : List ℕ} {e : ℕ} {f t : List ℕ} {k c : ℕ} {r : ParamRead} (y : cuts m ≡ true) (i : Collecting m s e f t k c) (a : ParamOf next_param m s c r) where
-  pub collect_more : {g u : List ℕ} → r.there ≡ true → r.ok ≡ true → Keeps f t k r.name r.end g u → Collecting m s e g u (k + 1) r.next
-  collect_more h j p = record {
-    are = params_step y (λ (rs : List RawParameter). listed k (word_at m s f t) (names_of rs)) i.are a h j ∙ keeps_more m s p (names_of (params_at m s r.next));
+module _ {m : ℕ} {s : List ℕ} {e : ℕ} {f t : List ℕ} {k c : ℕ} {r : Result (Option ParameterCursors) Malformed} (y : cuts m ≡ true) (i : Collecting m s e f t k c) (a : ParamOf next_param m s c r) where
+  pub collect_more : {g u : List ℕ} {pc : ParameterCursors} → r ≡ Ok (Some pc) → Keeps f t k pc.name pc.end g u → Collecting m s e g u (k + 1) pc.next
+  collect_more {pc = pc} h p = record {
+    are = params_step y (λ (rs : List RawParameter). listed k (word_at m s f t) (names_of rs)) i.are a h ∙ keeps_more m s p (names_of (params_at m s pc.next));
   }
 
-  pub collect_over : r.there ≡ false → names_of (params_at m s e) ≡ listed k (word_at m s f t) []
+  pub collect_over : r ≡ Ok None → names_of (params_at m s e) ≡ listed k (word_at m s f t) []
   collect_over h = params_over y (λ (rs : List RawParameter). listed k (word_at m s f t) (names_of rs)) i.are a h
 
-  pub collect_fault : r.there ≡ true → r.ok ≡ false → names_of (params_at m s e) ≡ listed k (word_at m s f t) []
-  collect_fault h j = params_fault y (λ (rs : List RawParameter). listed k (word_at m s f t) (names_of rs)) i.are a h j
+  pub collect_fault : {x : Malformed} → r ≡ Err x → names_of (params_at m s e) ≡ listed k (word_at m s f t) []
+  collect_fault h = params_fault y (λ (rs : List RawParameter). listed k (word_at m s f t) (names_of rs)) i.are a h
 
 -- ---- compared with all before them
 
@@ -46,35 +47,35 @@ pub compared_start : (m : ℕ) (s : List ℕ) (e : ℕ) → Comparing m s e 0 e
 unfolding onto
 compared_start m s e = record { before = []; names = refl; count = refl; comes = omega arith; past = omega arith }
 
-module _ {m : ℕ} {s : List ℕ} {e k c : ℕ} {r : ParamRead} (y : cuts m ≡ true) (i : Comparing m s e k c) (a : ParamOf next_param m s c r) where
+module _ {m : ℕ} {s : List ℕ} {e k c : ℕ} {r : Result (Option ParameterCursors) Malformed} (y : cuts m ≡ true) (i : Comparing m s e k c) (a : ParamOf next_param m s c r) where
   compared_over_by : params_at m s c ≡ [] → k ≡ first_again [] (names_of (params_at m s e))
   unfolding first_again
   compared_over_by h = sym (i.comes ∙ rw h (omega arith))
 
-  pub compared_over : r.there ≡ false → k ≡ first_again [] (names_of (params_at m s e))
+  pub compared_over : r ≡ Ok None → k ≡ first_again [] (names_of (params_at m s e))
   compared_over h = compared_over_by (params_over y (λ (rs : List RawParameter). rs) refl a h)
 
-  pub compared_fault : r.there ≡ true → r.ok ≡ false → k ≡ first_again [] (names_of (params_at m s e))
-  compared_fault h j = compared_over_by (params_fault y (λ (rs : List RawParameter). rs) refl a h j)
+  pub compared_fault : {x : Malformed} → r ≡ Err x → k ≡ first_again [] (names_of (params_at m s e))
+  compared_fault h = compared_over_by (params_fault y (λ (rs : List RawParameter). rs) refl a h)
 
-  module _ {b : Bool} (h : r.there ≡ true) (j : r.ok ≡ true) (g : b ≡ is_one_of (name_cut m s r.name r.end) (take k (names_of (params_at m s e)))) where
-    here : params_at m s c ≡ param_cut m s r.name r.end r.first ∷ params_at m s r.next
-    here = params_step y (λ (rs : List RawParameter). rs) refl a h j
+  module _ {b : Bool} {pc : ParameterCursors} (h : r ≡ Ok (Some pc)) (g : b ≡ is_one_of (name_cut m s pc.name pc.end) (take k (names_of (params_at m s e)))) where
+    here : params_at m s c ≡ param_cut m s pc.name pc.end pc.first ∷ params_at m s pc.next
+    here = params_step y (λ (rs : List RawParameter). rs) refl a h
 
-    again_is : b ≡ is_one_of (name_cut m s r.name r.end) i.before
-    again_is = g ∙ rw (i.names, ← i.count) (before_one (name_cut m s r.name r.end) i.before (names_of (params_at m s c)))
+    again_is : b ≡ is_one_of (name_cut m s pc.name pc.end) i.before
+    again_is = g ∙ rw (i.names, ← i.count) (before_one (name_cut m s pc.name pc.end) i.before (names_of (params_at m s c)))
 
-    pub compared_less : c < r.next
-    compared_less = let l = param_less a h j in omega (arith, l)
+    pub compared_less : c < pc.next
+    compared_less = let l = param_less a h in omega (arith, l)
 
     pub compared_again : b ≡ true → k ≡ first_again [] (names_of (params_at m s e))
     unfolding first_again pick
     compared_again z = sym (i.comes ∙ rw (here, sym again_is ∙ z) (omega arith))
 
-    pub compared_more : b ≡ false → Comparing m s e (k + 1) r.next
+    pub compared_more : b ≡ false → Comparing m s e (k + 1) pc.next
     unfolding first_again onto pick
     compared_more z = record {
-      before = name_cut m s r.name r.end ∷ i.before;
+      before = name_cut m s pc.name pc.end ∷ i.before;
       names = i.names ∙ rw here;
       count = let l = i.count in omega (arith, l);
       comes = i.comes ∙ rw (here, sym again_is ∙ z) (omega arith);

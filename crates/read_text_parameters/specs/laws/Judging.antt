@@ -2,10 +2,9 @@
 --     sought_..     the place of the first that comes again
 --     for_..        the type by which it is judged
 --     encodes_..    ENCODING;   behind_..: the type behind it
-use Rattle.std.specs.Prelude.{◌≡◌, Bool, true, false, List, [], ℕ, eqb}
+use Rattle.std.specs.Prelude.{◌≡◌, Bool, true, false, List, [], ℕ, eqb, Option, None, Some}
 use Rattle.std.proofs.Math.Path.{sym}
 use Rattle.std.proofs.Common.{ap, ◌∙◌}
-use Rattle.std.proofs.Math.Option.{Option, none, some}
 use borrow.Author.Tests.{eq-eqb, ne_eqb}
 use Rattle.bits.specs.Masks.{has}
 use Rattle.octets.specs.Ascii.{ascii}
@@ -18,8 +17,6 @@ use Rattle.text.specs.Parameters.{is_word, type_in}
 use Rattle.read_text_parameters.specs.Stating.{NumberOf, TypeOf, stated_at}
 use Rattle.read_text_parameters.specs.Walking.{sought_by, type_for, encodes_by, fits_by, behind_at, stated_by}
 use Rattle.read_text_parameters.specs.declared.walk.Noted.{Noted}
-use Rattle.read_text_parameters.specs.declared.TypeRead.{TypeRead}
-use Rattle.read_text_parameters.specs.declared.TypeRead.TheVariants.{«Type» as Known, Bad}
 
 module _ (n : Noted) (names : List (List ℕ)) where
   pub sought_now : {k f : ℕ} → k ≡ n.count → k ≡ 16 → f ≡ first_again [] names → record { count = n.count; seen = n.seen; again = f; value_type = n.value_type } ≡ sought_by n names
@@ -42,11 +39,11 @@ module _ (n : Noted) (rs : List RawParameter) (q : ℕ) {b : Bool} (e : b ≡ (e
     unfolding pick read_or
     for_named g k = rw (← e, h, ← f, k) g
 
-    pub for_none : c ≡ false → stated_at n.value_type rs ≡ none → 5 ≡ type_for q (stated_by n rs)
+    pub for_none : c ≡ false → stated_at n.value_type rs ≡ None → 5 ≡ type_for q (stated_by n rs)
     unfolding pick read_or
     for_none k g = rw (← e, h, ← f, k, g)
 
-    pub for_some : {u : ℕ} → c ≡ false → stated_at n.value_type rs ≡ some u → u ≡ type_for q (stated_by n rs)
+    pub for_some : {u : ℕ} → c ≡ false → stated_at n.value_type rs ≡ Some u → u ≡ type_for q (stated_by n rs)
     unfolding pick read_or
     for_some k g = rw (← e, h, ← f, k, g)
 
@@ -68,7 +65,7 @@ module _ (t q : ℕ) (vs : List ParamValue) where
 -- ---- the type behind it
 
 module _ (row : Row) (o : Option ℕ) (t q : ℕ) (vs : List ParamValue) where
-  pub behind_value : {r : TypeRead} → q ≡ 20 → TypeOf (type_in vs) r → NumberOf (behind_at row o t q vs) r
+  pub behind_value : {r : Option ℕ} → q ≡ 20 → TypeOf (type_in vs) r → NumberOf (behind_at row o t q vs) r
   unfolding pick
   behind_value h e = record { is = sym (rw (eq-eqb q 20 h) e.is) }
 
@@ -76,10 +73,10 @@ module _ (row : Row) (o : Option ℕ) (t q : ℕ) (vs : List ParamValue) where
     fits : b ≡ fits_by row (type_for q o) q vs
     fits = f ∙ ap (λ (j : ℕ). fits_by row j q vs) e
 
-    pub behind_fit : b ≡ true → NumberOf (behind_at row o t q vs) (Known t)
+    pub behind_fit : b ≡ true → NumberOf (behind_at row o t q vs) (Some t)
     unfolding pick
     behind_fit k = record { is = rw (ne_eqb q 20 h, ← fits, k) }
 
-    pub behind_unfit : b ≡ false → NumberOf (behind_at row o t q vs) Bad
+    pub behind_unfit : b ≡ false → NumberOf (behind_at row o t q vs) None
     unfolding pick
     behind_unfit k = record { is = rw (ne_eqb q 20 h, ← fits, k) }

@@ -1,9 +1,8 @@
 -- The walk over a line's parameters, of a property by its name: what the code finds is what crate text says.
 --     fault_place, stated_place     the place of the fault, and the type
-use Rattle.std.specs.Prelude.{◌≡◌, refl, Bool, ℕ}
+use Rattle.std.specs.Prelude.{◌≡◌, refl, Bool, ℕ, Option, None, Some, option_map}
 use Rattle.std.proofs.Common.{ap, ◌∙◌}
 use mathlib.Core.List.{List, [], ◌∷◌}
-use Rattle.std.proofs.Math.Option.{Option, none, some, map}
 use Rattle.octets.specs.Class.{upper}
 use Rattle.octets.specs.Reading.{read_or}
 use Rattle.calendar.specs.Calendar.{ValueType, DURATION}
@@ -26,27 +25,27 @@ unfolding first_faulty is_faulty
 first_same f g h before [] = refl
 first_same f g h before (r ∷ rs) = rw (h r, first_same f g h (upper r.name ∷ before) rs)
 
-type_for_lem : (o : Option ValueType) → read_or 5 (map type_place o) ≡ type_place (read_or DURATION o)
+type_for_lem : (o : Option ValueType) → read_or 5 (option_map type_place o) ≡ type_place (read_or DURATION o)
 unfolding read_or
-type_for_lem none = refl
-type_for_lem (some t) = refl
+type_for_lem None = refl
+type_for_lem (Some t) = refl
 
-binary_for : (o : Option ValueType) → is_binary_at (map type_place o) ≡ is_binary o
+binary_for : (o : Option ValueType) → is_binary_at (option_map type_place o) ≡ is_binary o
 unfolding same_type
-binary_for none = refl
-binary_for (some t) = refl
+binary_for None = refl
+binary_for (Some t) = refl
 
 module _ (w : List ℕ) {row : Row} (e : row ≡ row_at (place_of w property_names)) where
-  fits_place : (o : Option ValueType) (r : RawParameter) → fits_at row (map type_place o) r ≡ fits w o r
+  fits_place : (o : Option ValueType) (r : RawParameter) → fits_at row (option_map type_place o) r ≡ fits w o r
   unfolding fits_at
   fits_place o r = rw (e, type_for_lem o, binary_for o, permits_place w (upper r.name) (read_or DURATION o))
 
-  pub fault_place : (o : Option ValueType) (rs : List RawParameter) → fault_as row (map type_place o) rs ≡ parameters_fault w o rs
+  pub fault_place : (o : Option ValueType) (rs : List RawParameter) → fault_as row (option_map type_place o) rs ≡ parameters_fault w o rs
   unfolding fault_as parameters_fault
-  fault_place o rs = rw (first_same (fits_at row (map type_place o)) (fits w o) (fits_place o) [] rs, binary_for o)
+  fault_place o rs = rw (first_same (fits_at row (option_map type_place o)) (fits w o) (fits_place o) [] rs, binary_for o)
 
   default_is : row.default ≡ type_place (default_type w)
   default_is = ap (λ (r : Row). r.default) e ∙ default_place w
 
-  pub stated_place : (rs : List RawParameter) → stated_at row.default rs ≡ map type_place (stated_type w rs)
+  pub stated_place : (rs : List RawParameter) → stated_at row.default rs ≡ option_map type_place (stated_type w rs)
   stated_place rs = stated_same row.default w default_is rs

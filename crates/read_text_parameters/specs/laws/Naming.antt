@@ -1,11 +1,10 @@
 -- Laws of what specs/Naming.antt defines.
---     name_there, name_none                     the name of the parameter at a cursor, for code
+--     name_there                                the name of the parameter at a cursor, for code
 --     name_less, name_more, name_end, name_on   two names, by the units at their cursors;   name_nearer: the measure of a walk over them
-use Rattle.std.specs.Prelude.{◌≡◌, refl, Bool, true, false, List, [], ◌∷◌, ℕ, ◌-◌, ◌*◌, ◌≤◌, ◌<◌, eqb, ltb, length}
+use Rattle.std.specs.Prelude.{◌≡◌, refl, Bool, true, false, List, [], ◌∷◌, ℕ, ◌-◌, ◌*◌, ◌≤◌, ◌<◌, eqb, ltb, length, Option, Some, Result, Ok}
 use Rattle.std.proofs.Math.Path.{sym, ap}
 use Rattle.std.proofs.Common.{◌∙◌, arith}
-use Rattle.std.proofs.lemmas.Bool.{false≢true}
-use borrow.Author.Tests.{eq-eqb, ne_eqb, eqb-true, eqb-false, lt-ltb, le-ltb, ltb-true}
+use borrow.Author.Tests.{eq-eqb, ne_eqb, eqb-true, eqb-false, lt-ltb, le-ltb}
 use Rattle.octets.specs.Pick.{pick}
 use Rattle.octets.specs.laws.Pick.{pick_yes, pick_no, pick_either, pick_case, within_range}
 use Rattle.octets.specs.Class.{is_name_char, upper_byte, upper}
@@ -18,20 +17,17 @@ use Rattle.source.specs.declared.Step.{Step}
 use Rattle.distinct.specs.Order.{order}
 use Rattle.read_text_line.specs.ContentLine.{next_param}
 use Rattle.read_text_line.specs.Params.{ParamOf}
-use Rattle.read_text_line.specs.laws.Params.{param_more}
-use Rattle.read_text_line.specs.declared.ParamRead.{ParamRead}
+use Rattle.read_text_line.specs.laws.Params.{param_more, param_parts}
+use Rattle.read_text_line.specs.declared.Malformed.{Malformed}
+use Rattle.read_text_line.specs.declared.ParameterCursors.{ParameterCursors}
 use Rattle.read_text_parameters.specs.Comparing.{names_of}
 use Rattle.read_text_parameters.specs.Naming.{name_unit, name_at, NameAt}
 
 -- ---- the name of the parameter at a cursor
 
-module _ {m : ℕ} {s : List ℕ} {c : ℕ} where
-  pub name_there : {a : ParamRead} → ParamOf next_param m s c a → a.there ≡ true → a.ok ≡ true → NameAt m s c (record { there = ltb a.name a.next; name = a.name; next = a.next })
-  unfolding name_at
-  name_there {a} p h k = record { is = λ t. ap names_of (param_more p h k); onward = λ t. p.start.onward; past = λ t. ltb-true a.name a.next t }
-
-  pub name_none : (p q : ℕ) → NameAt m s c (record { there = false; name = p; next = q })
-  name_none p q = record { is = λ t. absurd (false≢true t); onward = λ t. absurd (false≢true t); past = λ t. absurd (false≢true t) }
+pub name_there : {m : ℕ} {s : List ℕ} {c : ℕ} {r : Result (Option ParameterCursors) Malformed} {pc : ParameterCursors} → ParamOf next_param m s c r → r ≡ Ok (Some pc) → pc.name < pc.next → NameAt m s c (record { name = pc.name; next = pc.next })
+unfolding name_at
+name_there a h l = record { is = ap names_of (param_more a h); onward = (param_parts a h).start.onward; past = l }
 
 -- ---- two names, by the units at their cursors
 

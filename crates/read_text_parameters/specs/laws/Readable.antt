@@ -1,10 +1,8 @@
 -- Laws of what specs/Readable.antt defines.
 --     own_every      what holds of a property's own parameters, of all of them;   all_read: all can be read where each one can
 --     single_.., amount_.., readable_..    for code
-use Rattle.std.specs.Prelude.{◌≡◌, refl, Bool, true, false, List, [], ◌∷◌, map, ℕ}
+use Rattle.std.specs.Prelude.{◌≡◌, refl, Bool, true, false, List, [], ◌∷◌, map, ℕ, Option, None, Some, option_map, Result, Ok, Err}
 use Rattle.std.proofs.Common.{sym, ap, ◌∙◌}
-use Rattle.std.proofs.Math.Option
-use Rattle.std.proofs.Math.Option.{Option, none, some}
 use Rattle.octets.specs.Ascii.{ascii}
 use Rattle.octets.specs.Pick.{pick, ◌and◌, ◌or◌}
 use Rattle.octets.specs.laws.Pick.{or_take, or_skip}
@@ -26,7 +24,8 @@ use Rattle.read_text_line.specs.Decoded.{decoded_value}
 use Rattle.read_text_line.specs.laws.Decoded.{map_empty}
 use Rattle.read_text_line.specs.Cursor.{values_at}
 use Rattle.read_text_line.specs.Values.{ValueAt}
-use Rattle.read_text_line.specs.declared.ParamAt.{ParamAt}
+use Rattle.read_text_line.specs.declared.Malformed.{Malformed}
+use Rattle.read_text_line.specs.declared.ValueCursors.{ValueCursors}
 use Rattle.text.specs.Parameters.{read_param_value, is_single, read_parameter, is_value_parameter, own_parameters, read_parameters}
 use Rattle.read_text_parameters.specs.Cutting.{value_cut}
 use Rattle.read_text_parameters.specs.laws.Cutting.{values_first, values_none, values_step}
@@ -44,15 +43,15 @@ each_read f p k [] = refl
 each_read {B = B} f p k (a ∷ l) = rw (← (k a), ← (each_read f p k l)) (go (f a) (read_each f l))
   where
     go : (o : Option B) (r : Option (List B)) → is_read (and_then o (λ b. cons_read b r)) ≡ (is_read o and is_read r)
-    go none r = refl
-    go (some b) none = refl
-    go (some b) (some l) = refl
+    go None r = refl
+    go (Some b) None = refl
+    go (Some b) (Some l) = refl
 
-counted : {A B : Type 0} (t : Bool) (g : A → B) (o : Option A) → is_read (pick t (Option.map g o) none) ≡ (t and is_read o)
+counted : {A B : Type 0} (t : Bool) (g : A → B) (o : Option A) → is_read (pick t (option_map g o) None) ≡ (t and is_read o)
 unfolding is_read pick ◌and◌
 counted false g o = refl
-counted true g none = refl
-counted true g (some a) = refl
+counted true g None = refl
+counted true g (Some a) = refl
 
 pub parameter_read : (r : RawParameter) → is_read (read_parameter r) ≡ is_read_by (parameter_at (place_of (upper r.name) parameter_names)) r.values
 unfolding read_parameter
@@ -79,26 +78,26 @@ all_read rs = each_read read_parameter (λ r. is_read (read_parameter r)) (λ r.
 -- ---- for code
 
 -- the values of a parameter, tested one by one
-module _ {m : ℕ} (y : cuts m ≡ true) (p : ParamValue → Bool) {s : List ℕ} {c : ℕ} {r : ParamAt} {t : Bool} (q : t ≡ p (value_cut m s r.quoted r.from r.to)) where
-  module _ (v : ValueAt param_value m s c r) (h : r.ok ≡ true) where
-    pub first_go : {b : Bool} → t ≡ true → b ≡ every p (items next_value (rest m s r.next)) → b ≡ every p (values_at m s c)
+module _ {m : ℕ} (y : cuts m ≡ true) (p : ParamValue → Bool) {s : List ℕ} {c : ℕ} {r : Result (Option ValueCursors) Malformed} {vc : ValueCursors} {t : Bool} (q : t ≡ p (value_cut m s vc.quoted vc.from vc.to)) where
+  module _ (v : ValueAt param_value m s c r) (h : r ≡ Ok (Some vc)) where
+    pub first_go : {b : Bool} → t ≡ true → b ≡ every p (items next_value (rest m s vc.next)) → b ≡ every p (values_at m s c)
     first_go z e = e ∙ sym (ap (every p) (values_first y v h) ∙ every_go p _ _ q z)
 
     pub first_halt : t ≡ false → false ≡ every p (values_at m s c)
     first_halt z = sym (ap (every p) (values_first y v h) ∙ every_halt p _ _ q z)
 
-  module _ {b : Bool} (e : b ≡ every p (items next_value (rest m s c))) (v : ValueAt next_value m s c r) (h : r.there ≡ true) (k : r.ok ≡ true) where
-    pub later_go : t ≡ true → b ≡ every p (items next_value (rest m s r.next))
-    later_go z = values_step y (every p) e v h k ∙ every_go p _ _ q z
+  module _ {b : Bool} (e : b ≡ every p (items next_value (rest m s c))) (v : ValueAt next_value m s c r) (h : r ≡ Ok (Some vc)) where
+    pub later_go : t ≡ true → b ≡ every p (items next_value (rest m s vc.next))
+    later_go z = values_step y (every p) e v h ∙ every_go p _ _ q z
 
     pub later_halt : t ≡ false → false ≡ b
-    later_halt z = sym (values_step y (every p) e v h k ∙ every_halt p _ _ q z)
+    later_halt z = sym (values_step y (every p) e v h ∙ every_halt p _ _ q z)
 
-module _ {m : ℕ} {s : List ℕ} {c : ℕ} {r : ParamAt} (y : cuts m ≡ true) (v : ValueAt param_value m s c r) where
-  pub single_first : {b : Bool} → r.ok ≡ true → b ≡ is_empty (items next_value (rest m s r.next)) → b ≡ is_single (values_at m s c)
+module _ {m : ℕ} {s : List ℕ} {c : ℕ} {r : Result (Option ValueCursors) Malformed} (y : cuts m ≡ true) (v : ValueAt param_value m s c r) where
+  pub single_first : {b : Bool} {vc : ValueCursors} → r ≡ Ok (Some vc) → b ≡ is_empty (items next_value (rest m s vc.next)) → b ≡ is_single (values_at m s c)
   single_first h e = e ∙ sym (ap is_single (values_first y v h))
 
-  pub single_none : r.ok ≡ false → false ≡ is_single (values_at m s c)
+  pub single_none : {x : Malformed} → r ≡ Err x → false ≡ is_single (values_at m s c)
   single_none h = sym (ap is_single (values_none y v h))
 
 module _ (n : List ℕ) (vs : List ParamValue) {b : Bool} (e : b ≡ same (upper n) (ascii "VALUE")) where

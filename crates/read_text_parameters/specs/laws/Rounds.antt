@@ -5,7 +5,7 @@
 --     Missing, missing_..      the walk over names that are none of them
 --     passes_.., passed_..     a round, and all rounds
 --     ends_..                  their end
-use Rattle.std.specs.Prelude.{◌≡◌, refl, Bool, true, false, ℕ, zero, suc, ◌+◌, ◌-◌, ◌^◌, ◌≤◌, ◌<◌, eqb, ltb, get_or, take}
+use Rattle.std.specs.Prelude.{◌≡◌, refl, Bool, true, false, ℕ, zero, suc, ◌+◌, ◌-◌, ◌^◌, ◌≤◌, ◌<◌, eqb, ltb, get_or, take, Option, None, Some, Result, Ok, Err}
 use Rattle.std.proofs.Math.Path.{sym, ap}
 use Rattle.std.proofs.Common.{◌∙◌, eqb-true, ltb-true, ltb-false}
 use Rattle.std.proofs.lemmas.Bool.{false≢true, eqb-false}
@@ -23,13 +23,14 @@ use Rattle.distinct.specs.Rising.{Rising}
 use Rattle.read_text_line.specs.ContentLine.{next_param}
 use Rattle.read_text_line.specs.Cursor.{params_at}
 use Rattle.read_text_line.specs.Params.{ParamOf}
-use Rattle.read_text_line.specs.declared.ParamRead.{ParamRead}
+use Rattle.read_text_line.specs.declared.Malformed.{Malformed}
+use Rattle.read_text_line.specs.declared.ParameterCursors.{ParameterCursors}
 use Rattle.read_text_parameters.specs.Cutting.{name_cut}
 use Rattle.read_text_parameters.specs.Comparing.{names_of, onto, Comparing}
 use Rattle.read_text_parameters.specs.Naming.{name_at, NameAt}
 use Rattle.read_text_parameters.specs.Rounds.{is_next, Passed, name_of, Standing, Stands, Held, Holding, Walked, Found, Behind, Before, Apart, Absent, Passes, EndsAt}
 use Rattle.read_text_parameters.specs.laws.Collecting.{compared_over, compared_fault, compared_again}
-use Rattle.read_text_parameters.specs.declared.named.NameRead.{NameRead}
+use Rattle.read_text_parameters.specs.declared.named.NameCursors.{NameCursors}
 use Rattle.read_text_parameters.specs.declared.rounds.Round.{Round}
 
 -- ---- names that rise
@@ -93,14 +94,10 @@ stands_here {P} {n} {p} {i} {q} h e = record { is = λ f. record { number = i; b
 pub stands_not : {P : List ℕ} {n p : ℕ} → Stands P n p false
 stands_not = record { is = λ f. absurd (false≢true f) }
 
-module _ {m : ℕ} {s P : List ℕ} {n c : ℕ} {a : NameRead} (t : NameAt m s c a) where
-  pub held_here : {b : Bool} → a.there ≡ true → Stands P n a.name b → Held m s P n c (record { there = b; name = a.name; next = a.next })
-  held_here h g = record { named = record { is = λ z. t.is h; onward = λ z. t.onward h; past = λ z. t.past h }; stands = λ z. g.is z }
+pub held_here : {m : ℕ} {s P : List ℕ} {n c : ℕ} {a : NameCursors} {b : Bool} → NameAt m s c a → Stands P n a.name b → b ≡ true → Held m s P n c a
+held_here t g h = record { named = t; stands = g.is h }
 
-  pub held_not : a.there ≡ false → Held m s P n c a
-  held_not h = record { named = t; stands = λ z. absurd (false≢true (sym h ∙ z)) }
-
-module _ {m : ℕ} {s P : List ℕ} {n e k c left : ℕ} {a : NameRead} (r : Rising (name_at m s) P n) (w : Walked m s P n e k c left) (t : NameAt m s c a) (h : a.there ≡ true) (g : Standing P n a.name) (l : 0 < left) where
+module _ {m : ℕ} {s P : List ℕ} {n e k c left : ℕ} {a : NameCursors} (r : Rising (name_at m s) P n) (w : Walked m s P n e k c left) (t : NameAt m s c a) (g : Standing P n a.name) (l : 0 < left) where
   abbrev x : List ℕ
   x = name_at m s a.name
 
@@ -108,13 +105,13 @@ module _ {m : ℕ} {s P : List ℕ} {n e k c left : ℕ} {a : NameRead} (r : Ris
   is_x = ap (name_at m s) g.is
 
   here : (v : List ℕ) → is_next m s c left v ≡ (same v x or is_next m s a.next (left - 1) v)
-  here v = ap (λ (ns : List (List ℕ)). is_one_of v (take left ns)) (t.is h) ∙ next_one v x (names_of (params_at m s a.next)) left l
+  here v = ap (λ (ns : List (List ℕ)). is_one_of v (take left ns)) (t.is) ∙ next_one v x (names_of (params_at m s a.next)) left l
 
   other : Holding m s P n c x → same x x ≡ false
   other d =
       ap (λ (v : List ℕ). same v x) d.is
       ∙ ap (same (name_of m s P d.number)) (sym is_x)
-      ∙ rising_apart r d.number g.number (λ z. let y : get_or P d.number 0 ≡ get_or P g.number 0 = ap (λ (i : ℕ). get_or P i 0) z in let i = g.is in let o = t.onward h in let u = d.early in omega (arith, y, i, o, u)) d.below g.below
+      ∙ rising_apart r d.number g.number (λ z. let y : get_or P d.number 0 ≡ get_or P g.number 0 = ap (λ (i : ℕ). get_or P i 0) z in let i = g.is in let o = t.onward in let u = d.early in omega (arith, y, i, o, u)) d.below g.below
 
   is_new : is_one_of x w.compared.before ≡ false
   is_new = go (is_one_of x w.compared.before) refl
@@ -126,15 +123,15 @@ module _ {m : ℕ} {s P : List ℕ} {n e k c left : ℕ} {a : NameRead} (r : Ris
   walk_more : Walked m s P n e (k + 1) a.next (left - 1)
   unfolding first_again onto pick is_one_of
   walk_more =
-      let o = t.onward h in
-      let q = t.past h in
+      let o = t.onward in
+      let q = t.past in
       let u = w.compared.past in
       record {
         compared = record {
           before = x ∷ w.compared.before;
-          names = w.compared.names ∙ ap (onto w.compared.before) (t.is h);
+          names = w.compared.names ∙ ap (onto w.compared.before) (t.is);
           count = let i = w.compared.count in omega (arith, i);
-          comes = w.compared.comes ∙ rw (t.is h, is_new) (omega arith);
+          comes = w.compared.comes ∙ rw (t.is, is_new) (omega arith);
           past = omega (arith, o, q, u);
         };
         old = w.old;
@@ -151,10 +148,10 @@ module _ {m : ℕ} {s P : List ℕ} {n : ℕ} where
     fits = omega arith;
   }
 
-  pub found_more : {from left k c more : ℕ} {a : NameRead} → Rising (name_at m s) P n → Found m s P n from left (record { count = k; next = c; left = more }) →
-      Held m s P n c a → a.there ≡ true → 0 < more → Found m s P n from left (record { count = k + 1; next = a.next; left = more - 1 })
-  found_more {from} {left} {k} {c} {more} r f t h l = record {
-    is = λ e j p. let z : j + (k + 1) ≡ j + k + 1 = omega arith in rw z (walk_more r (f.is e j p) t.named h (t.stands h) l);
+  pub found_more : {from left k c more : ℕ} {a : NameCursors} → Rising (name_at m s) P n → Found m s P n from left (record { count = k; next = c; left = more }) →
+      Held m s P n c a → 0 < more → Found m s P n from left (record { count = k + 1; next = a.next; left = more - 1 })
+  found_more {from} {left} {k} {c} {more} r f t l = record {
+    is = λ e j p. let z : j + (k + 1) ≡ j + k + 1 = omega arith in rw z (walk_more r (f.is e j p) t.named t.stands l);
     fits = let i = f.fits in omega (arith, i);
   }
 
@@ -196,15 +193,15 @@ module _ {m : ℕ} {s P : List ℕ} {n : ℕ} where
     pub missing_end : {left : ℕ} → k ≤ left → Absent m s P n from left k
     missing_end u = record { is = λ i l. let z : k ≡ k + 0 = omega arith in ap (λ (j : ℕ). is_next m s from j (name_of m s P i)) z ∙ w.is i l 0 ∙ next_none (name_of m s P i) (names_of (params_at m s c)); most = u }
 
-    pub missing_more : {a : NameRead} {b : Bool} → NameAt m s c a → a.there ≡ true → Apart m s P n a.name b → b ≡ true → Missing m s P n from (k + 1) a.next
+    pub missing_more : {a : NameCursors} {b : Bool} → NameAt m s c a → Apart m s P n a.name b → b ≡ true → Missing m s P n from (k + 1) a.next
     unfolding ◌or◌
-    missing_more {a} t h g q = record {
+    missing_more {a} t g q = record {
       is = λ i l d.
           let z : k + 1 + d ≡ k + (1 + d) = omega arith in
           let y : 1 + d - 1 ≡ d = omega arith in
           ap (λ (j : ℕ). is_next m s from j (name_of m s P i)) z
           ∙ w.is i l (1 + d)
-          ∙ ap (λ (ns : List (List ℕ)). is_one_of (name_of m s P i) (take (1 + d) ns)) (t.is h)
+          ∙ ap (λ (ns : List (List ℕ)). is_one_of (name_of m s P i) (take (1 + d) ns)) (t.is)
           ∙ next_one (name_of m s P i) (name_at m s a.name) (names_of (params_at m s a.next)) (1 + d) (omega arith)
           ∙ rw (g.is q i l, y);
     }
@@ -245,15 +242,15 @@ passed_all p = p.compared
 
 -- ---- the end
 
-module _ {m : ℕ} {s : List ℕ} {e k c : ℕ} {r : ParamRead} (y : cuts m ≡ true) (a : ParamOf next_param m s c r) where
-  pub ends_over : r.there ≡ false → EndsAt m s e k c true
+module _ {m : ℕ} {s : List ℕ} {e k c : ℕ} {r : Result (Option ParameterCursors) Malformed} (y : cuts m ≡ true) (a : ParamOf next_param m s c r) where
+  pub ends_over : r ≡ Ok None → EndsAt m s e k c true
   ends_over h = record { is = λ t i. compared_over y i a h }
 
-  pub ends_fault : r.there ≡ true → r.ok ≡ false → EndsAt m s e k c true
-  ends_fault h j = record { is = λ t i. compared_fault y i a h j }
+  pub ends_fault : {x : Malformed} → r ≡ Err x → EndsAt m s e k c true
+  ends_fault h = record { is = λ t i. compared_fault y i a h }
 
-  pub ends_again : {b : Bool} → r.there ≡ true → r.ok ≡ true → b ≡ is_one_of (name_cut m s r.name r.end) (take k (names_of (params_at m s e))) → EndsAt m s e k c b
-  ends_again h j g = record { is = λ t i. compared_again y i a h j g t }
+  pub ends_again : {b : Bool} {pc : ParameterCursors} → r ≡ Ok (Some pc) → b ≡ is_one_of (name_cut m s pc.name pc.end) (take k (names_of (params_at m s e))) → EndsAt m s e k c b
+  ends_again h g = record { is = λ t i. compared_again y i a h g t }
 
 pub ends_here : {m : ℕ} {s : List ℕ} {e k c : ℕ} {t : Bool} → EndsAt m s e k c t → t ≡ true → Comparing m s e k c → k ≡ first_again [] (names_of (params_at m s e))
 ends_here x h i = x.is h i

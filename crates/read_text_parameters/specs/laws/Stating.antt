@@ -1,13 +1,11 @@
 -- Laws of what specs/Stating.antt defines.
 --     Stating        the invariant of the walk over them;   stated_..: its laws
 --     stated_same, stated_names, stated-known   what they state of a name whose default has the number
-use Rattle.std.specs.Prelude.{◌≡◌, Bool, length, get_or, take}
+use Rattle.std.specs.Prelude.{◌≡◌, Bool, length, get_or, take, Option, None, Some, option_map, Result, Ok, Err}
 use Rattle.std.proofs.Math.Path.{refl, ap}
 use Rattle.std.proofs.Common.{sym, ◌∙◌, subst, arith, not-suc-le-zero, le_of_suc-le-suc}
 use Rattle.std.proofs.Math.Bool.{true, false}
 use mathlib.Core.List.{List, [], ◌∷◌, map}
-use Rattle.std.proofs.Math.Option
-use Rattle.std.proofs.Math.Option.{Option, none, some}
 use Prim.Native.Nat.{ℕ, zero, suc, ◌≤◌, ◌<◌}
 use Rattle.octets.specs.Ascii.{ascii}
 use Rattle.octets.specs.Pick.{pick}
@@ -30,82 +28,81 @@ use Rattle.read_text_line.specs.Decoded.{decoded_value, values_in, params_in}
 use Rattle.read_text_line.specs.laws.Decoded.{map_empty}
 use Rattle.read_text_line.specs.Values.{ValueAt}
 use Rattle.read_text_line.specs.Params.{ParamOf}
-use Rattle.read_text_line.specs.declared.ParamAt.{ParamAt}
-use Rattle.read_text_line.specs.declared.ParamRead.{ParamRead}
+use Rattle.read_text_line.specs.declared.Malformed.{Malformed}
+use Rattle.read_text_line.specs.declared.ValueCursors.{ValueCursors}
+use Rattle.read_text_line.specs.declared.ParameterCursors.{ParameterCursors}
 use Rattle.text.specs.Parameters.{is_value_parameter, type_in, stated_type}
 use Rattle.read_text_parameters.specs.laws.Cutting.{read_step, read_over, read_fault, values_first, values_none}
-use Rattle.read_text_parameters.specs.Stating.{number_read, TypeOf, stated_at, StatedAt}
-use Rattle.read_text_parameters.specs.declared.TypeRead.{TypeRead}
-use Rattle.read_text_parameters.specs.declared.TypeRead.TheVariants.{«Type» as Known, Bad}
+use Rattle.read_text_parameters.specs.Stating.{TypeOf, stated_at, StatedAt}
 
 module _ {A : Type 0} (d : A) where
-  nth-some : (l : List A) (n : ℕ) → n < length l → nth l n ≡ some (get_or l n d)
+  nth-some : (l : List A) (n : ℕ) → n < length l → nth l n ≡ Some (get_or l n d)
   unfolding nth
   nth-some [] n h = absurd (not-suc-le-zero h)
   nth-some (a ∷ l) zero h = refl
   nth-some (a ∷ l) (suc n) h = nth-some l n (le_of_suc-le-suc h)
 
-  nth-none : (l : List A) (n : ℕ) → length l ≤ n → nth l n ≡ none
+  nth-none : (l : List A) (n : ℕ) → length l ≤ n → nth l n ≡ None
   unfolding nth
   nth-none [] n h = refl
   nth-none (a ∷ l) zero h = absurd (not-suc-le-zero h)
   nth-none (a ∷ l) (suc n) h = nth-none l n (le_of_suc-le-suc h)
 
 abbrev numbered : Option ValueType → Option ℕ
-numbered o = Option.map type_place o
+numbered o = option_map type_place o
 
 module _ (w : List ℕ) {t : ℕ} (e : t ≡ place_of w type_names) where
-  pub type_some : t < 14 → TypeOf (type_named w) (Known t)
-  type_some h = record { is = ap numbered (type_place_lem w ∙ ap (nth value_types) (sym e) ∙ nth-some UNKNOWN value_types t h) ∙ ap (λ (n : ℕ). some n) (type_back t (omega arith)) }
+  pub type_some : t < 14 → TypeOf (type_named w) (Some t)
+  type_some h = record { is = ap numbered (type_place_lem w ∙ ap (nth value_types) (sym e) ∙ nth-some UNKNOWN value_types t h) ∙ ap (λ (n : ℕ). Some n) (type_back t (omega arith)) }
 
-  pub type_none : 14 ≤ t → TypeOf (type_named w) Bad
+  pub type_none : 14 ≤ t → TypeOf (type_named w) None
   type_none h = record { is = ap numbered (type_place_lem w ∙ ap (nth value_types) (sym e) ∙ nth-none UNKNOWN value_types t h) }
 
 -- ---- VALUE's one value, in the encoding u of a value
 
-module _ (ed : Edition) {m : ℕ} {s : List ℕ} {c : ℕ} {r : ParamAt} (y : cuts m ≡ true) (v : ValueAt param_value m s c r) where
-  module _ {b : Bool} (h : r.ok ≡ true) (e : b ≡ is_empty (items next_value (rest m s r.next))) where
-    several : is_empty (map (decoded_value ed) (items next_value (rest m s r.next))) ≡ b
-    several = map_empty (decoded_value ed) (items next_value (rest m s r.next)) ∙ sym e
+module _ (ed : Edition) {m : ℕ} {s : List ℕ} {c : ℕ} {r : Result (Option ValueCursors) Malformed} (y : cuts m ≡ true) (v : ValueAt param_value m s c r) where
+  module _ {b : Bool} {vc : ValueCursors} (h : r ≡ Ok (Some vc)) (e : b ≡ is_empty (items next_value (rest m s vc.next))) where
+    several : is_empty (map (decoded_value ed) (items next_value (rest m s vc.next))) ≡ b
+    several = map_empty (decoded_value ed) (items next_value (rest m s vc.next)) ∙ sym e
 
-    pub value_single : {t : TypeRead} {u : ℕ} → Decodes ed m u → b ≡ true → TypeOf (type_named (upper (rest u (take r.to s) r.from))) t → TypeOf (type_in (values_in ed m s c)) t
+    pub value_single : {t : Option ℕ} {u : ℕ} → Decodes ed m u → b ≡ true → TypeOf (type_named (upper (rest u (take vc.to s) vc.from))) t → TypeOf (type_in (values_in ed m s c)) t
     unfolding pick
-    value_single {t} d k p = rw (values_first y v h, several, k) (subst (λ (l : List ℕ). TypeOf (type_named (upper l)) t) (d.is (take r.to s) r.from) p)
+    value_single {t} d k p = rw (values_first y v h, several, k) (subst (λ (l : List ℕ). TypeOf (type_named (upper l)) t) (d.is (take vc.to s) vc.from) p)
 
-    pub value_several : b ≡ false → TypeOf (type_in (values_in ed m s c)) Bad
+    pub value_several : b ≡ false → TypeOf (type_in (values_in ed m s c)) None
     unfolding pick
     value_several k = record { is = rw (values_first y v h, several, k) }
 
-  pub value_none : r.ok ≡ false → TypeOf (type_in (values_in ed m s c)) Bad
+  pub value_none : {x : Malformed} → r ≡ Err x → TypeOf (type_in (values_in ed m s c)) None
   value_none h = record { is = rw (values_none y v h) }
 
 -- ---- the parameters of a line
 
 module _ (d : ℕ) (w : List ℕ) (h : d ≡ type_place (default_type w)) where
-  pub stated_same : (rs : List RawParameter) → stated_at d rs ≡ Option.map type_place (stated_type w rs)
+  pub stated_same : (rs : List RawParameter) → stated_at d rs ≡ option_map type_place (stated_type w rs)
   unfolding stated_at stated_type pick
-  stated_same [] = ap (λ (n : ℕ). some n) h
-  stated_same (r ∷ rs) = ap (λ (o : Option ℕ). pick (is_value_parameter r) (Option.map type_place (type_in r.values)) o) (stated_same rs) ∙ go (is_value_parameter r)
+  stated_same [] = ap (λ (n : ℕ). Some n) h
+  stated_same (r ∷ rs) = ap (λ (o : Option ℕ). pick (is_value_parameter r) (option_map type_place (type_in r.values)) o) (stated_same rs) ∙ go (is_value_parameter r)
     where
-      go : (b : Bool) → pick b (Option.map type_place (type_in r.values)) (Option.map type_place (stated_type w rs)) ≡ Option.map type_place (pick b (type_in r.values) (stated_type w rs))
+      go : (b : Bool) → pick b (option_map type_place (type_in r.values)) (option_map type_place (stated_type w rs)) ≡ option_map type_place (pick b (type_in r.values) (stated_type w rs))
       go true = refl
       go false = refl
 
 -- by its number
-type_of : (o : Option ValueType) {t : ℕ} → Option.map type_place o ≡ some t → (o ≡ some (type_at t)) × (t ≤ 14)
-type_of none e = none-some e
-type_of (some u) {t} e = let z : type_place u ≡ t = cc in (rw (← z, place_type u), let l = type_known u in omega arith)
+type_of : (o : Option ValueType) {t : ℕ} → option_map type_place o ≡ Some t → (o ≡ Some (type_at t)) × (t ≤ 14)
+type_of None e = none-some e
+type_of (Some u) {t} e = let z : type_place u ≡ t = cc in (rw (← z, place_type u), let l = type_known u in omega arith)
 
-type_off : (o : Option ValueType) → Option.map type_place o ≡ none → o ≡ none
-type_off none e = refl
-type_off (some u) e = none-some (sym e)
+type_off : (o : Option ValueType) → option_map type_place o ≡ None → o ≡ None
+type_off None e = refl
+type_off (Some u) e = none-some (sym e)
 
-module _ {ed : Edition} {d m : ℕ} {s : List ℕ} {e : ℕ} {r : TypeRead} (a : StatedAt ed d m s e r) (w : List ℕ) (h : d ≡ type_place (default_type w)) where
-  pub stated_names : {t : ℕ} → r ≡ Known t → (stated_type w (params_in ed m s e) ≡ some (type_at t)) × (t ≤ 14)
-  stated_names z = type_of (stated_type w (params_in ed m s e)) (sym (stated_same d w h (params_in ed m s e)) ∙ a.is ∙ ap number_read z)
+module _ {ed : Edition} {d m : ℕ} {s : List ℕ} {e : ℕ} {r : Option ℕ} (a : StatedAt ed d m s e r) (w : List ℕ) (h : d ≡ type_place (default_type w)) where
+  pub stated_names : {t : ℕ} → r ≡ Some t → (stated_type w (params_in ed m s e) ≡ Some (type_at t)) × (t ≤ 14)
+  stated_names z = type_of (stated_type w (params_in ed m s e)) (sym (stated_same d w h (params_in ed m s e)) ∙ a.is ∙ z)
 
-  pub stated_none : r ≡ Bad → stated_type w (params_in ed m s e) ≡ none
-  stated_none z = type_off (stated_type w (params_in ed m s e)) (sym (stated_same d w h (params_in ed m s e)) ∙ a.is ∙ ap number_read z)
+  pub stated_none : r ≡ None → stated_type w (params_in ed m s e) ≡ None
+  stated_none z = type_off (stated_type w (params_in ed m s e)) (sym (stated_same d w h (params_in ed m s e)) ∙ a.is ∙ z)
 
 -- VALUE is not among those before c
 pub record Stating (ed : Edition) (d m : ℕ) (s : List ℕ) (e c : ℕ) : Type 0 where
@@ -114,22 +111,22 @@ pub record Stating (ed : Edition) (d m : ℕ) (s : List ℕ) (e c : ℕ) : Type 
 pub stated_start : (ed : Edition) (d m : ℕ) (s : List ℕ) (e : ℕ) → Stating ed d m s e e
 stated_start ed d m s e = record { is = refl }
 
-module _ {ed : Edition} {d m : ℕ} {s : List ℕ} {e c : ℕ} {r : ParamRead} (y : cuts m ≡ true) (i : Stating ed d m s e c) (a : ParamOf next_param m s c r) where
-  module _ {b : Bool} (h : r.there ≡ true) (k : r.ok ≡ true) (q : b ≡ same (upper (rest m (take r.end s) r.name)) (ascii "VALUE")) where
-    pub stated_more : b ≡ false → Stating ed d m s e r.next
+module _ {ed : Edition} {d m : ℕ} {s : List ℕ} {e c : ℕ} {r : Result (Option ParameterCursors) Malformed} (y : cuts m ≡ true) (i : Stating ed d m s e c) (a : ParamOf next_param m s c r) where
+  module _ {b : Bool} {pc : ParameterCursors} (h : r ≡ Ok (Some pc)) (q : b ≡ same (upper (rest m (take pc.end s) pc.name)) (ascii "VALUE")) where
+    pub stated_more : b ≡ false → Stating ed d m s e pc.next
     unfolding stated_at pick
-    stated_more z = record { is = read_step ed y (stated_at d) i.is a h k ∙ rw (← q, z) }
+    stated_more z = record { is = read_step ed y (stated_at d) i.is a h ∙ rw (← q, z) }
 
-    pub stated_here : {t : TypeRead} → b ≡ true → TypeOf (type_in (values_in ed m s r.first)) t → StatedAt ed d m s e t
+    pub stated_here : {t : Option ℕ} → b ≡ true → TypeOf (type_in (values_in ed m s pc.first)) t → StatedAt ed d m s e t
     unfolding stated_at pick
-    stated_here z o = record { is = read_step ed y (stated_at d) i.is a h k ∙ rw (← q, z) o.is }
+    stated_here z o = record { is = read_step ed y (stated_at d) i.is a h ∙ rw (← q, z) o.is }
 
-  ended : stated_at d (params_in ed m s e) ≡ stated_at d [] → StatedAt ed d m s e (Known d)
+  ended : stated_at d (params_in ed m s e) ≡ stated_at d [] → StatedAt ed d m s e (Some d)
   unfolding stated_at
   ended f = record { is = f }
 
-  pub stated_over : r.there ≡ false → StatedAt ed d m s e (Known d)
+  pub stated_over : r ≡ Ok None → StatedAt ed d m s e (Some d)
   stated_over h = ended (read_over ed y (stated_at d) i.is a h)
 
-  pub stated_fault : r.there ≡ true → r.ok ≡ false → StatedAt ed d m s e (Known d)
-  stated_fault h k = ended (read_fault ed y (stated_at d) i.is a h k)
+  pub stated_fault : {x : Malformed} → r ≡ Err x → StatedAt ed d m s e (Some d)
+  stated_fault h = ended (read_fault ed y (stated_at d) i.is a h)

@@ -1,12 +1,11 @@
 -- Laws of what specs/Typing.antt defines.
 --     value_place  it is `read_param_value` of a name, by the name's number
 --     typed_.., chosen_.., by_..   for the code that reads one
-use Rattle.std.specs.Prelude.{◌≡◌, Bool, not, List, ℕ, eqb}
+use Rattle.std.specs.Prelude.{◌≡◌, Bool, not, List, ℕ, eqb, Option, None, Some}
 use Rattle.std.proofs.Math.Path.{refl}
 use Rattle.std.proofs.Common.{sym, ap, ◌∙◌}
 use Rattle.std.proofs.Math.Bool.{true, false}
 use Rattle.std.proofs.lemmas.Bool.{false≢true}
-use Rattle.std.proofs.Math.Option.{Option, none, some}
 use borrow.Author.Tests.{eq-eqb, ne_eqb, not-true}
 use Rattle.octets.specs.Pick.{pick, ◌and◌}
 use Rattle.octets.specs.Class.{upper}
@@ -27,7 +26,6 @@ use Rattle.values.specs.ReadValue.{read_value}
 use Rattle.values.specs.ValueAt.{value_read, is_read_at}
 use Rattle.source.specs.Source.{cuts}
 use Rattle.values.specs.laws.ValueAt.{at_plain}
-use Rattle.values.specs.declared.ValueRead.{ValueRead}
 use Rattle.read_text_line.specs.ContentLine.{ParamValue}
 use Rattle.text.specs.Parameters.{read_typed, read_word, read_param_value}
 use Rattle.read_text_parameters.specs.Typing.{read_by}
@@ -47,7 +45,7 @@ row_plain : (q : ℕ) → not (eqb (type_place (parameter_at q).type) 9) ≡ tru
 row_plain q = at_passes (λ r. not (eqb (type_place r.type) 9)) unrecognised_parameter parameter_table q rows_plain refl
 
 -- so that what `read_value` says holds in any encoding
-pub typed_there : {r : ValueRead} (q : ℕ) {t : ℕ} (m : ℕ) (l : List ℕ) → t ≡ type_place (parameter_at q).type → r ≡ value_read t (is_read_at false m (type_at t) l) →
+pub typed_there : {r : Option ℕ} (q : ℕ) {t : ℕ} (m : ℕ) (l : List ℕ) → t ≡ type_place (parameter_at q).type → r ≡ value_read t (is_read_at false m (type_at t) l) →
     r ≡ value_read t (is_read (read_value ical (type_at t) l))
 typed_there q {t} m l e p =
     let h : eqb (type_place (type_at t)) 9 ≡ false = rw (e, place_type (parameter_at q).type) (not-true _ (row_plain q)) in
@@ -75,21 +73,21 @@ module _ (o : Option (List (List ℕ))) (t : ValueType) (l : List ℕ) {a : Bool
   unfolding is_read pick
   chosen_word {r} h p = go o (sym e ∙ h) p
     where
-      tested : (b : Bool) (v : Value) → b ≡ is_read (pick b (some v) none)
+      tested : (b : Bool) (v : Value) → b ≡ is_read (pick b (Some v) None)
       tested true v = refl
       tested false v = refl
 
       go : (o : Option (List (List ℕ))) → is_read o ≡ true → r ≡ is_word_of o (upper l) → r ≡ is_read (read_word o t l)
-      go none k q = absurd (false≢true k)
-      go (some ws) k q = q ∙ tested (is_one_of (upper l) ws) _
+      go None k q = absurd (false≢true k)
+      go (Some ws) k q = q ∙ tested (is_one_of (upper l) ws) _
 
   pub chosen_other : {r : Bool} → a ≡ false → r ≡ is_read (read_typed t l) → r ≡ is_read (read_word o t l)
   unfolding is_read
   chosen_other {r} h p = go o (sym e ∙ h)
     where
       go : (o : Option (List (List ℕ))) → is_read o ≡ false → r ≡ is_read (read_word o t l)
-      go none k = p
-      go (some ws) k = absurd (false≢true (sym k))
+      go None k = p
+      go (Some ws) k = absurd (false≢true (sym k))
 
 module _ (p : ParameterRow) (l : List ℕ) {quoted : Bool} where
   pub by_quoted : {r : Bool} → quoted ≡ true → r ≡ is_read (read_word p.words p.type l) → r ≡ is_read (read_by p (record { quoted = quoted; chars = l }))

@@ -4,12 +4,10 @@
 --     Stepping         the same through a cursor;   step_start, step_again, step_bad, step_more, step_over ..: its laws
 use Rattle.std.proofs.Math.Path.{◌≡◌, refl, sym, ap}
 use Rattle.std.proofs.Common.{subst, ◌∙◌, arith}
-use Rattle.std.specs.Prelude.{Bool, ℕ, suc, ◌+◌, ◌^◌, ◌≤◌, ◌<◌, length, take}
+use Rattle.std.specs.Prelude.{Bool, ℕ, suc, ◌+◌, ◌^◌, ◌≤◌, ◌<◌, length, take, Option, None, Some, option_map, Result, Ok, Err}
 use Rattle.std.proofs.Math.Bool.{true, false, not, cond}
 use Rattle.std.proofs.lemmas.Bool.{false≢true}
 use mathlib.Core.List.{List, [], ◌∷◌, map}
-use Rattle.std.proofs.Math.Option
-use Rattle.std.proofs.Math.Option.{Option, none, some}
 use Rattle.std.proofs.Math.Dec.{eqb, ltb}
 use borrow.Author.Tests.{eq-eqb, ne_eqb, eqb-false, lt-ltb, le-ltb, ltb-false}
 use Rattle.bits.specs.Masks.{has}
@@ -43,20 +41,19 @@ use Rattle.read_text_line.specs.Decoded.{decoded_parameter, values_in, params_in
 use Rattle.read_text_line.specs.Cursor.{params_at}
 use Rattle.read_text_line.specs.Params.{ParamOf}
 use Rattle.read_text_line.specs.laws.Params.{param_less}
-use Rattle.read_text_line.specs.declared.ParamRead.{ParamRead}
+use Rattle.read_text_line.specs.declared.Malformed.{Malformed}
+use Rattle.read_text_line.specs.declared.ParameterCursors.{ParameterCursors}
 use Rattle.read_text_parameters.specs.Cutting.{name_cut, param_read}
 use Rattle.read_text_parameters.specs.laws.Cutting.{read_step, read_over, read_fault}
 use Rattle.read_text_parameters.specs.Comparing.{names_of, onto}
 use Rattle.read_text_parameters.specs.Readable.{is_read_by}
 use Rattle.read_text_parameters.specs.laws.Readable.{parameter_read}
-use Rattle.read_text_parameters.specs.Stating.{number_read, NumberOf, stated_at}
-use Rattle.read_text_parameters.specs.declared.TypeRead.{TypeRead}
-use Rattle.read_text_parameters.specs.declared.TypeRead.TheVariants.{«Type» as Known, Bad}
+use Rattle.read_text_parameters.specs.Stating.{NumberOf, stated_at}
 use Rattle.read_text_parameters.specs.laws.Before.{before_one}
 use Rattle.read_text_parameters.specs.Walking.{number_of, comes_again, sought_by, type_for, fits_by, is_binary_at, fits_at, behind_at, stated_by, Notes, ended_by, where_of, fault_as, ParametersAt}
 use Rattle.read_text_parameters.specs.declared.walk.Noted.{Noted}
-use Rattle.read_text_parameters.specs.declared.ParametersRead.{ParametersRead}
-use Rattle.read_text_parameters.specs.declared.ParametersRead.TheVariants.{Good, Faulty, Unencoded}
+use Rattle.read_text_parameters.specs.declared.ParameterFault.{ParameterFault}
+use Rattle.read_text_parameters.specs.declared.ParameterFault.TheVariants.{Faulty, Unencoded}
 
 -- ---- the number of a name
 
@@ -129,8 +126,8 @@ number_same v w h = go (same v (ascii "VALUE")) (same w (ascii "VALUE")) refl re
 
 binary_at : (t : Option ℕ) → eqb (read_or 5 t) 0 ≡ is_binary_at t
 unfolding read_or
-binary_at none = refl
-binary_at (some t) = refl
+binary_at None = refl
+binary_at (Some t) = refl
 
 -- only RELATED hangs on the type
 permits_any : (row : Row) (t u q : ℕ) → eqb q 13 ≡ false → permits_at row t q ≡ permits_at row u q
@@ -226,9 +223,9 @@ module _ {row : Row} {all left : List RawParameter} {x : RawParameter} {n : Note
   unfolding pick is_read
   sound_is true h = rw (h, number_value (upper x.name) h) (mapped (type_in x.values))
     where
-      mapped : (o : Option ValueType) → is_read (Option.map type_place o) ≡ is_read o
-      mapped none = refl
-      mapped (some t) = refl
+      mapped : (o : Option ValueType) → is_read (option_map type_place o) ≡ is_read o
+      mapped None = refl
+      mapped (Some t) = refl
   sound_is false h =
       rw (h, number_other (upper x.name) h, ne_eqb (place_of (upper x.name) parameter_names) 20 (λ z. let l = place_most (upper x.name) in omega (arith, l)), ← (stated_behind h), fits_by_lem row (stated_at row.default all) x)
       (given (fits_at row (stated_at row.default all) x))
@@ -239,15 +236,15 @@ module _ {row : Row} {all left : List RawParameter} {x : RawParameter} {n : Note
 
   -- ---- the first faulty one is here
 
-  faulty_here : (is_one_of (upper x.name) i.before or not (is_sound (fits_at row (stated_at row.default all)) x)) ≡ true → ParametersAt row all (Faulty n.count)
+  faulty_here : (is_one_of (upper x.name) i.before or not (is_sound (fits_at row (stated_at row.default all)) x)) ≡ true → ParametersAt row all (Err (Faulty n.count))
   unfolding fault_as first_faulty is_faulty pick
   faulty_here h = record { fault = rw (i.first, h, i.count); typed = λ t e. let z : ◌≡◌ {A = ℕ} 0 1 = cc in absurd (omega arith) }
 
-  walked_again : {b : Bool} → b ≡ comes_again (sought_by n (names_of all)) (number_of (upper x.name)) (upper x.name) (names_of all) → b ≡ true → ParametersAt row all (Faulty n.count)
+  walked_again : {b : Bool} → b ≡ comes_again (sought_by n (names_of all)) (number_of (upper x.name)) (upper x.name) (names_of all) → b ≡ true → ParametersAt row all (Err (Faulty n.count))
   unfolding ◌or◌
   walked_again e h = faulty_here (rw (sym (again_is e) ∙ h))
 
-  walked_bad : none ≡ behind_at row (stated_by n left) n.value_type (number_of (upper x.name)) x.values → ParametersAt row all (Faulty n.count)
+  walked_bad : None ≡ behind_at row (stated_by n left) n.value_type (number_of (upper x.name)) x.values → ParametersAt row all (Err (Faulty n.count))
   unfolding is_read ◌or◌
   walked_bad e = faulty_here (rw (sym (sound_is (is_value_parameter x) refl) ∙ ap is_read (sym e)) (either (is_one_of (upper x.name) i.before)))
     where
@@ -258,7 +255,7 @@ module _ {row : Row} {all left : List RawParameter} {x : RawParameter} {n : Note
   -- ---- it is sound: the walk goes on
 
   module _ {t : ℕ} {r : Noted} (g : Notes (sought_by n (names_of all)) (number_of (upper x.name)) t r) (a : is_one_of (upper x.name) i.before ≡ false)
-      (e : some t ≡ behind_at row (stated_by n left) n.value_type (number_of (upper x.name)) x.values) where
+      (e : Some t ≡ behind_at row (stated_by n left) n.value_type (number_of (upper x.name)) x.values) where
     more_first : first_faulty (fits_at row (stated_at row.default all)) [] all ≡ first_faulty (fits_at row (stated_at row.default all)) (upper x.name ∷ i.before) left
     unfolding first_faulty is_faulty is_read pick ◌or◌
     more_first = i.first ∙ rw (a, sym (sound_is (is_value_parameter x) refl) ∙ ap is_read (sym e))
@@ -281,18 +278,18 @@ module _ {row : Row} {all left : List RawParameter} {x : RawParameter} {n : Note
         let q = number_value (upper x.name) h in
         let s : has r.seen 20 ≡ true = g.seen 20 ∙ rw (q, eq-eqb 20 20 refl) in
         let v : has n.seen 20 ≡ false = ap (has n.seen) (sym q) ∙ i.noted (upper x.name) (ap (λ (j : ℕ). eqb j 19) q) ∙ a in
-        let o : some t ≡ Option.map type_place (type_in x.values) = e ∙ rw q in
+        let o : Some t ≡ option_map type_place (type_in x.values) = e ∙ rw q in
         i.typed ∙ rw (s, v, h, g.typed) (sym o)
     more_typed false h =
         let q = number_other (upper x.name) h in
         let l = place_most (upper x.name) in
         let y : eqb (place_of (upper x.name) parameter_names) 20 ≡ false = ne_eqb (place_of (upper x.name) parameter_names) 20 (λ (z : place_of (upper x.name) parameter_names ≡ 20). omega (arith, l, z)) in
         let s : has r.seen 20 ≡ has n.seen 20 = g.seen 20 ∙ rw (q, y) in
-        let o : some t ≡ provided (fits_by row (type_for (place_of (upper x.name) parameter_names) (stated_by n left)) (place_of (upper x.name) parameter_names) x.values) n.value_type = e ∙ rw (q, y) in
+        let o : Some t ≡ provided (fits_by row (type_for (place_of (upper x.name) parameter_names) (stated_by n left)) (place_of (upper x.name) parameter_names) x.values) n.value_type = e ∙ rw (q, y) in
         let u : t ≡ n.value_type = given (fits_by row (type_for (place_of (upper x.name) parameter_names) (stated_by n left)) (place_of (upper x.name) parameter_names) x.values) o in
         stated_behind h ∙ rw (s, g.typed, u)
       where
-        given : (b : Bool) → some t ≡ provided b n.value_type → t ≡ n.value_type
+        given : (b : Bool) → Some t ≡ provided b n.value_type → t ≡ n.value_type
         given true k = cc
         given false k = let z : ◌≡◌ {A = ℕ} 0 1 = cc in absurd (omega arith)
 
@@ -326,11 +323,11 @@ module _ {row : Row} {all left : List RawParameter} {x : RawParameter} {n : Note
 -- ---- at the end
 
 module _ {row : Row} {all : List RawParameter} {n : Noted} (i : Walked row all [] n) where
-  all_typed : stated_at row.default all ≡ some n.value_type
+  all_typed : stated_at row.default all ≡ Some n.value_type
   unfolding stated_at pick
   all_typed = i.typed ∙ go (has n.seen 20)
     where
-      go : (b : Bool) → pick b (some n.value_type) (some n.value_type) ≡ some n.value_type
+      go : (b : Bool) → pick b (Some n.value_type) (Some n.value_type) ≡ Some n.value_type
       go true = refl
       go false = refl
 
@@ -338,19 +335,19 @@ module _ {row : Row} {all : List RawParameter} {n : Noted} (i : Walked row all [
   unfolding any_one
   all_encoded = i.encoded ∙ or-false (is_one_of (ascii "ENCODING") i.before) ∙ sym (i.noted (ascii "ENCODING") (ap (λ (j : ℕ). eqb j 19) encoding_number)) ∙ ap (has n.seen) encoding_number
 
-  walked_end : {r : ParametersRead} → r ≡ ended_by n → ParametersAt row all r
+  walked_end : {r : Result ℕ ParameterFault} → r ≡ ended_by n → ParametersAt row all r
   unfolding fault_as first_faulty pick ◌and◌
   walked_end e = rw e (record {
     fault = rw (i.first, all_typed, all_encoded) (place (eqb n.value_type 0) (has n.seen 6));
     typed = λ t h. all_typed ∙ same_type (eqb n.value_type 0) (has n.seen 6) t h;
   })
     where
-      place : (b c : Bool) → place_of_fault none (b and not c) ≡ where_of (pick b (pick c (Good n.value_type) Unencoded) (Good n.value_type))
+      place : (b c : Bool) → place_of_fault None (b and not c) ≡ where_of (pick b (pick c (Ok n.value_type) (Err Unencoded)) (Ok n.value_type))
       place true true = refl
       place true false = refl
       place false c = refl
 
-      same_type : (b c : Bool) (t : ℕ) → pick b (pick c (Good n.value_type) Unencoded) (Good n.value_type) ≡ Good t → some n.value_type ≡ some t
+      same_type : (b c : Bool) (t : ℕ) → pick b (pick c (Ok n.value_type) (Err Unencoded)) (Ok n.value_type) ≡ Ok t → Some n.value_type ≡ Some t
       same_type true true t h = cc
       same_type true false t h = let z : ◌≡◌ {A = ℕ} 0 1 = cc in absurd (omega arith)
       same_type false c t h = cc
@@ -369,52 +366,52 @@ pub record Stepping (ed : Edition) (row : Row) (m : ℕ) (s : List ℕ) (e c : �
 pub step_start : (ed : Edition) (row : Row) (m : ℕ) (s : List ℕ) (e : ℕ) → Stepping ed row m s e e (record { count = 0; seen = 0; again = 0; value_type = row.default })
 step_start ed row m s e = record { walked = walked_start row (params_in ed m s e); past = omega arith }
 
-module _ {ed : Edition} {row : Row} {m : ℕ} {s : List ℕ} {e c : ℕ} {n : Noted} {r : ParamRead} (y : cuts m ≡ true) (i : Stepping ed row m s e c n) (a : ParamOf next_param m s c r) where
+module _ {ed : Edition} {row : Row} {m : ℕ} {s : List ℕ} {e c : ℕ} {n : Noted} {r : Result (Option ParameterCursors) Malformed} (y : cuts m ≡ true) (i : Stepping ed row m s e c n) (a : ParamOf next_param m s c r) where
   step_none : params_in ed m s c ≡ [] → Walked row (params_in ed m s e) [] n
   step_none h = subst (λ (l : List RawParameter). Walked row (params_in ed m s e) l n) h i.walked
 
-  pub step_over : {p : ParametersRead} → r.there ≡ false → p ≡ ended_by n → ParametersAt row (params_in ed m s e) p
+  pub step_over : {p : Result ℕ ParameterFault} → r ≡ Ok None → p ≡ ended_by n → ParametersAt row (params_in ed m s e) p
   step_over h = walked_end (step_none (read_over ed y (λ (rs : List RawParameter). rs) refl a h))
 
-  pub step_fault : {p : ParametersRead} → r.there ≡ true → r.ok ≡ false → p ≡ ended_by n → ParametersAt row (params_in ed m s e) p
-  step_fault h k = walked_end (step_none (read_fault ed y (λ (rs : List RawParameter). rs) refl a h k))
+  pub step_fault : {p : Result ℕ ParameterFault} → {x : Malformed} → r ≡ Err x → p ≡ ended_by n → ParametersAt row (params_in ed m s e) p
+  step_fault h = walked_end (step_none (read_fault ed y (λ (rs : List RawParameter). rs) refl a h))
 
-  module _ {q : ℕ} {v : Noted} {b : Bool} (h : r.there ≡ true) (k : r.ok ≡ true) (f : q ≡ number_of (name_cut m s r.name r.end)) (g₀ : v ≡ sought_by n (names_of (params_at m s e)))
-      (x₀ : b ≡ comes_again v q (name_cut m s r.name r.end) (names_of (params_at m s e))) where
+  module _ {q : ℕ} {v : Noted} {b : Bool} {pc : ParameterCursors} (h : r ≡ Ok (Some pc)) (f : q ≡ number_of (name_cut m s pc.name pc.end)) (g₀ : v ≡ sought_by n (names_of (params_at m s e)))
+      (x₀ : b ≡ comes_again v q (name_cut m s pc.name pc.end) (names_of (params_at m s e))) where
     g : v ≡ sought_by n (names_of (params_in ed m s e))
     g = g₀ ∙ ap (sought_by n) (sym (names_read ed (params_at m s e)))
 
-    x : b ≡ comes_again v q (name_cut m s r.name r.end) (names_of (params_in ed m s e))
-    x = x₀ ∙ ap (comes_again v q (name_cut m s r.name r.end)) (sym (names_read ed (params_at m s e)))
+    x : b ≡ comes_again v q (name_cut m s pc.name pc.end) (names_of (params_in ed m s e))
+    x = x₀ ∙ ap (comes_again v q (name_cut m s pc.name pc.end)) (sym (names_read ed (params_at m s e)))
 
-    here : Walked row (params_in ed m s e) (param_read ed m s r.name r.end r.first ∷ params_in ed m s r.next) n
-    here = subst (λ (l : List RawParameter). Walked row (params_in ed m s e) l n) (read_step ed y (λ (rs : List RawParameter). rs) refl a h k) i.walked
+    here : Walked row (params_in ed m s e) (param_read ed m s pc.name pc.end pc.first ∷ params_in ed m s pc.next) n
+    here = subst (λ (l : List RawParameter). Walked row (params_in ed m s e) l n) (read_step ed y (λ (rs : List RawParameter). rs) refl a h) i.walked
 
-    comes : b ≡ comes_again (sought_by n (names_of (params_in ed m s e))) (number_of (name_cut m s r.name r.end)) (name_cut m s r.name r.end) (names_of (params_in ed m s e))
-    comes = subst (λ (u : Noted). b ≡ comes_again u (number_of (name_cut m s r.name r.end)) (name_cut m s r.name r.end) (names_of (params_in ed m s e))) g
-        (subst (λ (j : ℕ). b ≡ comes_again v j (name_cut m s r.name r.end) (names_of (params_in ed m s e))) f x)
+    comes : b ≡ comes_again (sought_by n (names_of (params_in ed m s e))) (number_of (name_cut m s pc.name pc.end)) (name_cut m s pc.name pc.end) (names_of (params_in ed m s e))
+    comes = subst (λ (u : Noted). b ≡ comes_again u (number_of (name_cut m s pc.name pc.end)) (name_cut m s pc.name pc.end) (names_of (params_in ed m s e))) g
+        (subst (λ (j : ℕ). b ≡ comes_again v j (name_cut m s pc.name pc.end) (names_of (params_in ed m s e))) f x)
 
-    pub step_again : b ≡ true → ParametersAt row (params_in ed m s e) (Faulty n.count)
+    pub step_again : b ≡ true → ParametersAt row (params_in ed m s e) (Err (Faulty n.count))
     step_again z = walked_again here comes z
 
-    module _ {t : TypeRead} (o : NumberOf (behind_at row (stated_by v (params_in ed m s r.next)) v.value_type q (values_in ed m s r.first)) t) where
-      behind : number_read t ≡ behind_at row (stated_by n (params_in ed m s r.next)) n.value_type (number_of (name_cut m s r.name r.end)) (values_in ed m s r.first)
-      behind = subst (λ (u : Noted). number_read t ≡ behind_at row (stated_by u (params_in ed m s r.next)) u.value_type (number_of (name_cut m s r.name r.end)) (values_in ed m s r.first)) g
-          (subst (λ (j : ℕ). number_read t ≡ behind_at row (stated_by v (params_in ed m s r.next)) v.value_type j (values_in ed m s r.first)) f o.is)
+    module _ {t : Option ℕ} (o : NumberOf (behind_at row (stated_by v (params_in ed m s pc.next)) v.value_type q (values_in ed m s pc.first)) t) where
+      behind : t ≡ behind_at row (stated_by n (params_in ed m s pc.next)) n.value_type (number_of (name_cut m s pc.name pc.end)) (values_in ed m s pc.first)
+      behind = subst (λ (u : Noted). t ≡ behind_at row (stated_by u (params_in ed m s pc.next)) u.value_type (number_of (name_cut m s pc.name pc.end)) (values_in ed m s pc.first)) g
+          (subst (λ (j : ℕ). t ≡ behind_at row (stated_by v (params_in ed m s pc.next)) v.value_type j (values_in ed m s pc.first)) f o.is)
 
-      pub step_bad : t ≡ Bad → ParametersAt row (params_in ed m s e) (Faulty n.count)
-      step_bad z = walked_bad here (ap number_read (sym z) ∙ behind)
+      pub step_bad : t ≡ None → ParametersAt row (params_in ed m s e) (Err (Faulty n.count))
+      step_bad z = walked_bad here (sym z ∙ behind)
 
-      step_small : v.count + 1 ≤ r.next
-      step_small = let l = param_less a h k in let p = i.past in let w : v.count ≡ n.count = ap (λ (u : Noted). u.count) g in omega (arith, l, p, w)
+      step_small : v.count + 1 ≤ pc.next
+      step_small = let l = param_less a h in let p = i.past in let w : v.count ≡ n.count = ap (λ (u : Noted). u.count) g in omega (arith, l, p, w)
 
-      pub step_room : r.next < 2 ^ 64 → v.count + 1 < 2 ^ 64
+      pub step_room : pc.next < 2 ^ 64 → v.count + 1 < 2 ^ 64
       step_room b = let l = step_small in omega (arith, l, b)
 
-      pub step_more : {u : ℕ} {w : Noted} → b ≡ false → t ≡ Known u → Notes v q u w → Stepping ed row m s e r.next w
+      pub step_more : {u : ℕ} {w : Noted} → b ≡ false → t ≡ Some u → Notes v q u w → Stepping ed row m s e pc.next w
       step_more {u} {w} z d p =
           let p₁ : Notes (sought_by n (names_of (params_in ed m s e))) q u w = subst (λ (j : Noted). Notes j q u w) g p in
-          let p₂ : Notes (sought_by n (names_of (params_in ed m s e))) (number_of (name_cut m s r.name r.end)) u w = subst (λ (j : ℕ). Notes (sought_by n (names_of (params_in ed m s e))) j u w) f p₁ in
+          let p₂ : Notes (sought_by n (names_of (params_in ed m s e))) (number_of (name_cut m s pc.name pc.end)) u w = subst (λ (j : ℕ). Notes (sought_by n (names_of (params_in ed m s e))) j u w) f p₁ in
           let l = step_small in
           let k : w.count ≡ v.count + 1 = p.count in
-          record { walked = walked_more here p₂ (sym (again_is here comes) ∙ z) (ap number_read (sym d) ∙ behind); past = omega (arith, l, k) }
+          record { walked = walked_more here p₂ (sym (again_is here comes) ∙ z) (sym d ∙ behind); past = omega (arith, l, k) }

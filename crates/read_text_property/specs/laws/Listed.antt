@@ -1,11 +1,9 @@
 -- Laws of what specs/Listed.antt defines.
 --     each_bad, each_last, each_more          the loop over pieces;   each_gone: past the end
---     kept_yes, kept_no                       what the reader of TEXT says
 --     listed_text, listed_other               a list of TEXT, and of another type
-use Rattle.std.specs.Prelude.{◌≡◌, refl, Bool, true, false, List, [], ◌∷◌, map, ℕ, ◌≤◌, ◌<◌, length, take}
+use Rattle.std.specs.Prelude.{◌≡◌, refl, Bool, true, false, List, [], ◌∷◌, map, ℕ, ◌≤◌, ◌<◌, length, take, Option, None, Some}
 use Rattle.std.proofs.Math.Path.{sym, ap}
 use Rattle.std.proofs.Common.{◌∙◌, arith, ne_eqb}
-use Rattle.std.proofs.Math.Option.{Option, none, some}
 use Rattle.std.proofs.Math.Decide.{dec_le}
 use Rattle.std.proofs.Math.ListN.{get_or-eq_default}
 use Rattle.octets.specs.Pick.{pick, ◌and◌}
@@ -21,9 +19,6 @@ use Rattle.schema.specs.laws.Places.{type_back}
 use Rattle.recur.specs.Pieces.{Ends}
 use Rattle.recur.specs.laws.PieceLaws.{Left, step_less, pieces_any, pieces_last, pieces_more, cons_read_lem}
 use Rattle.texts.specs.TextList.{read_texts}
-use Rattle.texts.specs.Kept.{is_kept}
-use Rattle.texts.specs.declared.Kept.{Kept}
-use Rattle.texts.specs.declared.Kept.TheVariants.{Good, Bad}
 use Rattle.values.specs.ReadValue.{read_value}
 use Rattle.values.specs.laws.ValueAt.{mapped}
 use Rattle.text.specs.Values.{read_listed}
@@ -53,10 +48,10 @@ module _ (t : ValueType) {m : ℕ} {s : List ℕ} {c₀ c e : ℕ} (l : Left (ea
     unfolding ◌and◌
     each_more z = record { left = l.left ∙ ap (each_value t) (pieces_more d q z) ∙ each_first t _ _ ∙ rw h; inside = (step_less d.inside q z).1 }
 
-alone : (o : Option Value) → is_read (and_then o (λ v. cons_read v (some []))) ≡ is_read o
+alone : (o : Option Value) → is_read (and_then o (λ v. cons_read v (Some []))) ≡ is_read o
 unfolding and_then cons_read is_read
-alone none = refl
-alone (some v) = refl
+alone None = refl
+alone (Some v) = refl
 
 gone_is : {r : Bool} (t : ValueType) → r ≡ is_read (read_value ical t []) → r ≡ each_value t (cut_at 44 [])
 unfolding cut_at read_each
@@ -74,13 +69,6 @@ not_text t h = go (dec_le 14 t)
     go : Dec (14 ≤ t) → same_type (type_at t) TEXT ≡ false
     go (yes k) = rw (get_or-eq_default value_types UNKNOWN k)
     go (no k) = let z : t < 14 = omega (arith, k) in rw (type_back t (omega arith)) (ne_eqb t 10 h)
-
-module _ {k : Kept} {b : Bool} (e : is_kept k ≡ b) where
-  pub kept_yes : k ≡ Good → true ≡ b
-  kept_yes h = rw h at e
-
-  pub kept_no : k ≡ Bad → false ≡ b
-  kept_no h = rw h at e
 
 module _ {r : Bool} (t : ℕ) (l : List ℕ) where
   pub listed_text : t ≡ 10 → r ≡ is_read (read_texts l) → r ≡ is_read (read_listed (type_at t) l)

@@ -3,12 +3,11 @@
 --     values_place    it is what `read_values` says of the names;   values_named: so is the answer
 --     values_yes, values_no, values_as, own_take, own_skip             the answer, by tests
 --     geo_yes, status_yes, chosen_word, chosen_value ..                the ways of the code
-use Rattle.std.specs.Prelude.{◌≡◌, refl, Bool, List, [], ◌∷◌, ℕ, ◌≤◌}
+use Rattle.std.specs.Prelude.{◌≡◌, refl, Bool, List, [], ◌∷◌, ℕ, ◌≤◌, Option, None, Some}
 use Rattle.std.proofs.Math.Path.{sym}
 use Rattle.std.proofs.Common.{ap, ◌∙◌}
 use Rattle.std.proofs.Math.Bool.{true, false}
 use Rattle.std.proofs.lemmas.Bool.{false≢true}
-use Rattle.std.proofs.Math.Option.{Option, none, some}
 use Rattle.octets.specs.Pick.{pick}
 use Rattle.octets.specs.Class.{upper}
 use Rattle.octets.specs.Words.{is_one_of}
@@ -29,37 +28,32 @@ use Rattle.schema.specs.Sets.{is_word_of}
 use Rattle.schema.specs.laws.Sets.{words_place, geo_place, request_status_place}
 use Rattle.numbers.specs.Geo.{read_geo}
 use Rattle.numbers.specs.ReadGeo.{ReadsGeo}
-use Rattle.numbers.specs.declared.geo.GeoRead.{GeoRead}
-use Rattle.numbers.specs.declared.geo.GeoRead.TheVariants.{At, Bad as NoGeo}
 use Rattle.texts.specs.RequestStatus.{read_request_status}
 use Rattle.texts.specs.StatusParts.{StatusEnds}
-use Rattle.texts.specs.declared.Status.{Status}
-use Rattle.texts.specs.declared.Status.TheVariants.{Parts, NoStatus}
+use Rattle.texts.specs.declared.StatusParts.{StatusParts}
 use Rattle.recur.specs.laws.Fits.{provided_is}
 use Rattle.values.specs.ReadValue.{read_value}
 use Rattle.values.specs.laws.ValueAt.{mapped}
 use Rattle.text.specs.Values.{one_value, read_listed, read_chosen, read_own, read_values}
 use Rattle.read_text_property.specs.ValuesAt.{values_read, own_at, good_at}
-use Rattle.read_text_property.specs.declared.ValuesRead.{ValuesRead}
-use Rattle.read_text_property.specs.declared.ValuesRead.TheVariants.{Good, Bad}
 
-abbrev pub are_good : ValuesRead → Bool
-are_good (Good t) = true
-are_good Bad = false
+abbrev pub are_good : Option ℕ → Bool
+are_good (Some t) = true
+are_good None = false
 
-pub good_values : (t : ℕ) (b : Bool) {r : ValuesRead} → r ≡ values_read t b → b ≡ are_good r
+pub good_values : (t : ℕ) (b : Bool) {r : Option ℕ} → r ≡ values_read t b → b ≡ are_good r
 good_values t true e = rw e
 good_values t false e = rw e
 
 module _ (t : ℕ) where
   module _ {b : Bool} where
-    pub values_yes : true ≡ b → Good t ≡ values_read t b
+    pub values_yes : true ≡ b → Some t ≡ values_read t b
     values_yes h = rw (← h)
 
-    pub values_no : false ≡ b → Bad ≡ values_read t b
+    pub values_no : false ≡ b → None ≡ values_read t b
     values_no h = rw (← h)
 
-  module _ {r : ValuesRead} where
+  module _ {r : Option ℕ} where
     pub values_as : {a b : Bool} → r ≡ values_read t a → a ≡ b → r ≡ values_read t b
     values_as e h = rw (← h) e
 
@@ -94,7 +88,7 @@ own_same {a} {a'} {b} {b'} {d} {d'} {o} {o'} t l p q r u = rw (← p, ← q, ←
 own_place : (c w : List ℕ) (t : ValueType) (l : List ℕ) → is_read (read_own c w t l) ≡ own_at (place_of c component_names) (row_at (place_of w property_names)) (type_place t) l
 own_place c w t l = rw (number_place w, listed_place w, place_type t) (own_same t l (geo_place w) (request_status_place w) refl (words_place c w))
 
-pick_read : {A : Type 0} (b : Bool) (o : Option A) → is_read (pick b o none) ≡ pick b (is_read o) false
+pick_read : {A : Type 0} (b : Bool) (o : Option A) → is_read (pick b o None) ≡ pick b (is_read o) false
 unfolding pick is_read
 pick_read true o = refl
 pick_read false o = refl
@@ -109,16 +103,16 @@ values_place c w t l =
 -- ---- GEO, REQUEST-STATUS, a word of a closed set
 
 module _ {m : ℕ} {s : List ℕ} {c : ℕ} where
-  pub geo_yes : {r : GeoRead} {e : ℕ} → ReadsGeo m s c r → r ≡ At e → true ≡ is_read (read_geo (rest m s c))
+  pub geo_yes : {r : Option ℕ} {e : ℕ} → ReadsGeo m s c r → r ≡ Some e → true ≡ is_read (read_geo (rest m s c))
   geo_yes p h = sym (p.good ∙ rw h)
 
-  pub geo_no : {r : GeoRead} → ReadsGeo m s c r → r ≡ NoGeo → false ≡ is_read (read_geo (rest m s c))
+  pub geo_no : {r : Option ℕ} → ReadsGeo m s c r → r ≡ None → false ≡ is_read (read_geo (rest m s c))
   geo_no p h = sym (p.good ∙ rw h)
 
-  pub status_yes : {r : Status} {a d b : ℕ} → StatusEnds m s c r → r ≡ Parts a d b → true ≡ is_read (read_request_status (rest m s c))
+  pub status_yes : {r : Option StatusParts} {a : StatusParts} → StatusEnds m s c r → r ≡ Some a → true ≡ is_read (read_request_status (rest m s c))
   status_yes p h = rw (← p.is, h)
 
-  pub status_no : {r : Status} → StatusEnds m s c r → r ≡ NoStatus → false ≡ is_read (read_request_status (rest m s c))
+  pub status_no : {r : Option StatusParts} → StatusEnds m s c r → r ≡ None → false ≡ is_read (read_request_status (rest m s c))
   status_no p h = rw (← p.is, h)
 
 module _ {a r : Bool} (o : Option (List (List ℕ))) (t : ValueType) (l : List ℕ) (e : a ≡ is_read o) where
@@ -127,20 +121,20 @@ module _ {a r : Bool} (o : Option (List (List ℕ))) (t : ValueType) (l : List �
   chosen_word h q = go o (sym h ∙ e) q
     where
       go : (o : Option (List (List ℕ))) → true ≡ is_read o → r ≡ is_word_of o (upper l) → r ≡ is_read (read_chosen o t l)
-      go none z q = absurd (false≢true (sym z))
-      go (some ws) z q = q ∙ sym (provided_is (is_one_of (upper l) ws) (text (upper l)))
+      go None z q = absurd (false≢true (sym z))
+      go (Some ws) z q = q ∙ sym (provided_is (is_one_of (upper l) ws) (text (upper l)))
 
   pub chosen_value : a ≡ false → r ≡ is_read (read_value ical t l) → r ≡ is_read (read_chosen o t l)
   unfolding is_read
   chosen_value h q = go o (sym h ∙ e) q
     where
       go : (o : Option (List (List ℕ))) → false ≡ is_read o → r ≡ is_read (read_value ical t l) → r ≡ is_read (read_chosen o t l)
-      go none z q = q
-      go (some ws) z q = absurd (false≢true z)
+      go None z q = q
+      go (Some ws) z q = absurd (false≢true z)
 
 -- ---- the answer
 
 -- of names that have this number and this row
-pub values_named : {r : ValuesRead} (k : ℕ) (row : Row) (t : ℕ) (l : List ℕ) → r ≡ values_read t (good_at k row t l) → (c w : List ℕ) →
+pub values_named : {r : Option ℕ} (k : ℕ) (row : Row) (t : ℕ) (l : List ℕ) → r ≡ values_read t (good_at k row t l) → (c w : List ℕ) →
     k ≡ place_of c component_names → row ≡ row_at (place_of w property_names) → t ≤ 14 → r ≡ values_read t (is_read (read_values c w (type_at t) l))
 values_named k row t l e c w i j h = e ∙ rw (values_place c w (type_at t) l, type_back t h, i, j)

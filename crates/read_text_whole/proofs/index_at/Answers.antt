@@ -10,5 +10,5 @@ returns-then-mode-eq0 c = index_start _ c.if-mode-eq0.true c.requires
 pub returns-then-left-all : goal.returns-then-left-all
 returns-then-left-all c = index_counted _ _ _ c.count_from-all.ensures c.count_from-left.ensures
 
-pub returns : goal.returns
-returns c = index_none _ _ _ c.count_from-all.ensures c.count_from-left.ensures c.if-left-all.false
+pub returns-else-left-all : goal.returns-else-left-all
+returns-else-left-all c = index_none _ _ _ c.count_from-all.ensures c.count_from-left.ensures c.if-left-all.false

@@ -1,9 +1,8 @@
 -- Laws of what specs/Whole.antt defines, one for each way that code goes.
-use Rattle.std.specs.Prelude.{◌≡◌, true, List, ℕ, ◌+◌, ◌-◌, ◌≤◌, ◌<◌, drop, take}
+use Rattle.std.specs.Prelude.{◌≡◌, true, List, ℕ, ◌+◌, ◌-◌, ◌≤◌, ◌<◌, drop, take, Option, None, Some, Result, Ok, Err}
 use Rattle.std.proofs.Math.Path.{refl, ap}
 use Rattle.std.proofs.Common.{sym, ◌∙◌, arith}
 use Rattle.std.proofs.Math.Bool.{false}
-use Rattle.std.proofs.Math.Option.{Option, none, some}
 use Rattle.std.proofs.Math.Dec.{leb}
 use Rattle.std.proofs.Math.ListN.{length, length-append}
 use borrow.Author.Tests.{le-leb, lt-leb}
@@ -20,18 +19,14 @@ use Rattle.read_text_line.specs.laws.Ready.{index_plain}
 use Rattle.utf8.specs.Utf8.{first_bad}
 use Rattle.text.specs.ReadText.{lines_verdict, kept_verdict, placed, text_verdict}
 use Rattle.read_text.specs.Answers.{Checks}
-use Rattle.read_text.specs.declared.Checked.TheVariants as checked
+use Rattle.refusals.specs.Fault.{refusal_of, fault_at}
+use Rattle.refusals.specs.declared.Fault.{Fault}
 use Rattle.refusals.specs.declared.Refusal.TheVariants.{Length, Work, Character}
 use Rattle.refusals.specs.declared.Refusal.TheVariants.{Edition as EditionRefused}
 use Rattle.calls.specs.ToXml.{unfolded_in, to_xml_work}
-use Rattle.calls.specs.Answered.{outcome_of, answer_at}
-use Rattle.calls.specs.laws.Answered.{answer_refusal}
-use Rattle.calls.specs.declared.Answer.{Answer}
-use Rattle.calls.specs.declared.Answer.TheVariants as answered
 use Rattle.edition.specs.Edition.{edition_of}
 use Rattle.edition.specs.declared.Edition.{Edition}
-use Rattle.read_text_whole.specs.declared.Whole.{Whole}
-use Rattle.read_text_whole.specs.declared.Whole.TheVariants.{Kept, Refused}
+use Rattle.read_text_whole.specs.declared.Kept.{Kept}
 use Rattle.read_text_whole.specs.Whole.{whole_verdict, Refuses, Judges, Reads, ReadsFolded}
 
 -- ---- the place of a cursor
@@ -52,24 +47,24 @@ module _ (m : ℕ) (s : List ℕ) (p : ℕ) {all left : ℕ} (a : all ≡ length
 -- ---- the lines are good, or one is faulty
 
 module _ {ed : Edition} {m : ℕ} {u : List ℕ} (s : List ℕ) where
-  pub lines_fine : Checks ed m u checked.Fine → Judges ed s (length u) (lines_verdict ed (length (rest m u 0)) (lines (rest m u 0))) (Kept ed (length u))
-  lines_fine k = (k.is, refl, refl)
+  pub lines_fine : Checks ed m u (Ok tt) → (n : ℕ) → n ≡ length u → Judges ed s (length u) (lines_verdict ed (length (rest m u 0)) (lines (rest m u 0))) (Ok (record { edition = ed; size = n }))
+  lines_fine k n e = (k.is, refl, e)
 
-  pub lines_refused : (n : ℕ) {p i q : ℕ} {a : Answer} → Checks ed m u (checked.Refused n p) → i ≡ index m u p → q ≡ origin s i → a ≡ answer_at n q →
-      Judges ed s (length u) (lines_verdict ed (length (rest m u 0)) (lines (rest m u 0))) (Refused a)
+  pub lines_refused : (f : Fault) {i q : ℕ} {g : Fault} → Checks ed m u (Err f) → i ≡ index m u f.place → q ≡ origin s i → g ≡ fault_at f.refusal q →
+      Judges ed s (length u) (lines_verdict ed (length (rest m u 0)) (lines (rest m u 0))) (Err g)
   unfolding placed
-  lines_refused n {p} {i} {q} k j e f =
-      let h : lines_verdict ed (length (rest m u 0)) (lines (rest m u 0)) ≡ refuse (refusal_at n) i = k.is ∙ ap (refuse (refusal_at n)) (sym j) in
-      record { because = refusal_at n; place = q; is = ap (placed s) h ∙ ap (refuse (refusal_at n)) (sym e); told = ap outcome_of f ∙ answer_refusal n q }
+  lines_refused f {i} {q} {g} k j e h =
+      let v : lines_verdict ed (length (rest m u 0)) (lines (rest m u 0)) ≡ refuse (refusal_of f.refusal) i = k.is ∙ ap (refuse (refusal_of f.refusal)) (sym j) in
+      ap (placed s) v ∙ ap (refuse (refusal_of f.refusal)) (sym e) ∙ ap (λ (x : Fault). refuse (refusal_of x.refusal) x.place) (sym h)
 
 -- ---- all characters are there, or not
 
 module _ (ed : Edition) (s u : List ℕ) (size : ℕ) where
-  pub kept_bad : {p q : ℕ} → first_bad u ≡ some p → q ≡ origin s p → Judges ed s size (kept_verdict ed u) (Refused (answered.Refused Character q))
+  pub kept_bad : {p q : ℕ} {g : Fault} → first_bad u ≡ Some p → q ≡ origin s p → g ≡ fault_at Character q → Judges ed s size (kept_verdict ed u) (Err g)
   unfolding kept_verdict ◌otherwise◌ placed
-  kept_bad {p} {q} h e = record { because = CHARACTER; place = q; is = rw (h, e); told = refl }
+  kept_bad {p} {q} h e f = rw (h, f, e)
 
-  pub kept_good : (r : Whole) → first_bad u ≡ none → Judges ed s size (lines_verdict ed (length u) (lines u)) r → Judges ed s size (kept_verdict ed u) r
+  pub kept_good : (r : Result Kept Fault) → first_bad u ≡ None → Judges ed s size (lines_verdict ed (length u) (lines u)) r → Judges ed s size (kept_verdict ed u) r
   unfolding kept_verdict ◌otherwise◌
   kept_good r h g = rw h g
 
@@ -92,80 +87,80 @@ placed-fine s = refl
 
 -- ---- the contract: what is answered, and what the work room holds
 
-abbrev pub Whole-read : List ℕ → List ℕ → List ℕ → ℕ → Whole → Type 0
+abbrev pub Whole-read : List ℕ → List ℕ → List ℕ → ℕ → Result Kept Fault → Type 0
 Whole-read s w w' edition r = Reads s w w' edition r × (w' ≡ to_xml_work s w edition)
 
 module _ (s w : List ℕ) (edition : ℕ) where
   -- whatever the edition
-  pub too_long : 65535 < length s → Whole-read s w w edition (Refused (answered.Refused Length 0))
+  pub too_long : 65535 < length s → Whole-read s w w edition (Err (fault_at Length 0))
   unfolding whole_verdict to_xml_work text_verdict pick
   too_long h = go (edition_of edition)
     where
       e : leb (length s) 65535 ≡ false
       e = lt-leb (length s) 65535 h
 
-      go : (o : Option Edition) → Refuses (whole_verdict o s (length w)) (answered.Refused Length 0) × (w ≡ pick (leb (length s) 65535) (pick (leb (length s) (length w)) (unfolded_in o s w) w) w)
-      go (some ed) = (record { because = LENGTH; place = 0; is = rw e; told = refl }, rw e)
-      go none = (record { because = LENGTH; place = 0; is = rw e; told = refl }, rw e)
+      go : (o : Option Edition) → Refuses (whole_verdict o s (length w)) (fault_at Length 0) × (w ≡ pick (leb (length s) 65535) (pick (leb (length s) (length w)) (unfolded_in o s w) w) w)
+      go (Some ed) = (rw e, rw e)
+      go None = (rw e, rw e)
 
   module _ (h : length s ≤ 65535) where
     within : leb (length s) 65535 ≡ true
     within = le-leb (length s) 65535 h
 
-    pub no_room : length w < length s → Whole-read s w w edition (Refused (answered.Refused Work 0))
+    pub no_room : length w < length s → Whole-read s w w edition (Err (fault_at Work 0))
     unfolding whole_verdict to_xml_work text_verdict pick
     no_room k = go (edition_of edition)
       where
         f : leb (length s) (length w) ≡ false
         f = lt-leb (length s) (length w) k
 
-        go : (o : Option Edition) → Refuses (whole_verdict o s (length w)) (answered.Refused Work 0) × (w ≡ pick (leb (length s) 65535) (pick (leb (length s) (length w)) (unfolded_in o s w) w) w)
-        go (some ed) = (record { because = WORK; place = 0; is = rw (within, f); told = refl }, rw (within, f))
-        go none = (record { because = WORK; place = 0; is = rw (within, f); told = refl }, rw (within, f))
+        go : (o : Option Edition) → Refuses (whole_verdict o s (length w)) (fault_at Work 0) × (w ≡ pick (leb (length s) 65535) (pick (leb (length s) (length w)) (unfolded_in o s w) w) w)
+        go (Some ed) = (rw (within, f), rw (within, f))
+        go None = (rw (within, f), rw (within, f))
 
     module _ (k : length s ≤ length w) where
       room : leb (length s) (length w) ≡ true
       room = le-leb (length s) (length w) k
 
-      pub no_edition : none ≡ edition_of edition → Whole-read s w w edition (Refused (answered.Refused EditionRefused 0))
+      pub no_edition : None ≡ edition_of edition → Whole-read s w w edition (Err (fault_at EditionRefused 0))
       unfolding whole_verdict to_xml_work pick
-      no_edition n = (record { because = EDITION; place = 0; is = rw (← n, within, room); told = refl }, rw (← n, within, room))
+      no_edition n = (rw (← n, within, room), rw (← n, within, room))
 
       -- the verdict is that on the kept bytes
       whole : (ed : Edition) → text_verdict ed s (length w) ≡ placed s (kept_verdict ed (unfolded s))
       unfolding text_verdict pick
       whole ed = rw (within, room)
 
-      work_left : {ed : Edition} {w' : List ℕ} {n : ℕ} → some ed ≡ edition_of edition → Unfolds s w w' n → w' ≡ to_xml_work s w edition
+      work_left : {ed : Edition} {w' : List ℕ} {n : ℕ} → Some ed ≡ edition_of edition → Unfolds s w w' n → w' ≡ to_xml_work s w edition
       unfolding to_xml_work pick
       work_left i u = u.is ∙ rw (← i, within, room)
 
-      in_edition : {ed : Edition} {v : Verdict} → some ed ≡ edition_of edition → text_verdict ed s (length w) ≡ v → whole_verdict (edition_of edition) s (length w) ≡ v
+      in_edition : {ed : Edition} {v : Verdict} → Some ed ≡ edition_of edition → text_verdict ed s (length w) ≡ v → whole_verdict (edition_of edition) s (length w) ≡ v
       unfolding whole_verdict
       in_edition i e = rw (← i) e
 
       -- what the check says of the kept bytes is said of the text
-      judged_refused : {ed : Edition} {a : Answer} → some ed ≡ edition_of edition → Refuses (placed s (kept_verdict ed (unfolded s))) a → Refuses (whole_verdict (edition_of edition) s (length w)) a
-      judged_refused {ed} i f = record { because = f.because; place = f.place; is = in_edition i (whole ed ∙ f.is); told = f.told }
+      judged_refused : {ed : Edition} (f : Fault) → Some ed ≡ edition_of edition → Refuses (placed s (kept_verdict ed (unfolded s))) f → Refuses (whole_verdict (edition_of edition) s (length w)) f
+      judged_refused {ed} f i h = in_edition i (whole ed ∙ h)
 
       judged_fine : (ed : Edition) → kept_verdict ed (unfolded s) ≡ fine → text_verdict ed s (length w) ≡ fine
       judged_fine ed v = whole ed ∙ ap (placed s) v ∙ placed-fine s
 
       -- the unfolded text, bytes as they stand
-      judged_reads : {ed : Edition} {w' : List ℕ} {n : ℕ} (r : Whole) → some ed ≡ edition_of edition → Unfolds s w w' n → Judges ed s (length (take n w')) (kept_verdict ed (rest 0 (take n w') 0)) r → Reads s w w' edition r
-      judged_reads {ed} {w'} {n} (Kept e m) i u g =
+      judged_reads : {ed : Edition} {w' : List ℕ} {n : ℕ} (r : Result Kept Fault) → Some ed ≡ edition_of edition → Unfolds s w w' n → Judges ed s (length (take n w')) (kept_verdict ed (rest 0 (take n w') 0)) r → Reads s w w' edition r
+      judged_reads {ed} {w'} {n} (Ok k) i u g =
           let v : kept_verdict ed (unfolded s) ≡ fine = rw (rest_plain (take n w'), kept_is u) at g.0 in
-          let same : m ≡ n = g.2 ∙ sym (kept_count u) in
+          let same : k.size ≡ n = g.2 ∙ sym (kept_count u) in
           record {
-            named = ap some g.1 ∙ i;
+            named = ap Some g.1 ∙ i;
             good = rw g.1 (judged_fine ed v);
             front = rw same (kept_is u);
             inside = rw same (kept_inside u);
             short = rw (same, kept_is u) (omega (arith, h, length-unfolded s));
           }
-      judged_reads {ed} {w'} {n} (Refused a) i u g = judged_refused i (rw (rest_plain (take n w'), kept_is u) at g)
+      judged_reads {ed} {w'} {n} (Err f) i u g = judged_refused f i (rw (rest_plain (take n w'), kept_is u) at g)
 
-      pub unfolded_read : {ed : Edition} {w' : List ℕ} {n : ℕ} (r : Whole) → some ed ≡ edition_of edition → Unfolds s w w' n → Judges ed s (length (take n w')) (kept_verdict ed (rest 0 (take n w') 0)) r → Whole-read s w w' edition r
+      pub unfolded_read : {ed : Edition} {w' : List ℕ} {n : ℕ} (r : Result Kept Fault) → Some ed ≡ edition_of edition → Unfolds s w w' n → Judges ed s (length (take n w')) (kept_verdict ed (rest 0 (take n w') 0)) r → Whole-read s w w' edition r
       unfolded_read r i u g = (judged_reads r i u g, work_left i u)
 
 -- ---- the contract where the folds stay in place: there is no work room, and all is as with one that is as long as the text
@@ -175,14 +170,14 @@ unfolding rest pick
 rest_folded s = refl
 
 module _ (s : List ℕ) (edition : ℕ) where
-  pub folded_long : 65535 < length s → ReadsFolded s edition (Refused (answered.Refused Length 0))
+  pub folded_long : 65535 < length s → ReadsFolded s edition (Err (fault_at Length 0))
   folded_long h = (too_long s s edition h).0
 
-  pub folded_edition : length s ≤ 65535 → none ≡ edition_of edition → ReadsFolded s edition (Refused (answered.Refused EditionRefused 0))
+  pub folded_edition : length s ≤ 65535 → None ≡ edition_of edition → ReadsFolded s edition (Err (fault_at EditionRefused 0))
   folded_edition h n = (no_edition s s edition h (omega arith) n).0
 
-  pub folded_read : {ed : Edition} (r : Whole) → length s ≤ 65535 → some ed ≡ edition_of edition → Judges ed s (length s) (kept_verdict ed (rest 2 s 0)) r → ReadsFolded s edition r
-  folded_read {ed} (Kept e m) h i g =
+  pub folded_read : {ed : Edition} (r : Result Kept Fault) → length s ≤ 65535 → Some ed ≡ edition_of edition → Judges ed s (length s) (kept_verdict ed (rest 2 s 0)) r → ReadsFolded s edition r
+  folded_read {ed} (Ok k) h i g =
       let v : kept_verdict ed (unfolded s) ≡ fine = rw (rest_folded s) at g.0 in
-      record { named = ap some g.1 ∙ i; good = rw g.1 (judged_fine s s edition h (omega arith) ed v); short = h }
-  folded_read {ed} (Refused a) h i g = judged_refused s s edition h (omega arith) i (rw (rest_folded s) at g)
+      record { named = ap Some g.1 ∙ i; good = rw g.1 (judged_fine s s edition h (omega arith) ed v); short = h }
+  folded_read {ed} (Err f) h i g = judged_refused s s edition h (omega arith) f i (rw (rest_folded s) at g)

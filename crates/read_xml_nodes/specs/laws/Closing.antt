@@ -5,6 +5,7 @@ use Rattle.std.proofs.Math.Path.{refl}
 use Rattle.std.proofs.Common.{sym, ap, subst, ◌∙◌, arith, rules}
 use Prim.Native.Nat.{ℕ, zero, suc, ◌+◌, ◌-◌, ◌≤◌, ◌<◌}
 use Rattle.std.proofs.Math.Numerals.{add-one, sub-one}
+use Rattle.std.proofs.Math.Logic.{◌⊎◌, inl, inr}
 use Rattle.octets.specs.laws.Scan.{drop_next}
 use Rattle.utf8.specs.Spell.{spell}
 use Rattle.xml.specs.Token.{char_byte, token}
@@ -123,17 +124,22 @@ module _ {s : List ℕ} {from at depth : ℕ} (c : Closing s from at depth) wher
     pub closing_starts : t.kind ≡ Start → Closing s from t.next (depth + 1)
     closing_starts q = step q start_sound (depth + 1) (omega arith) (rw (marked f Start q) (seeks_opens (marks_at s t.next) at (name_in s t) depth))
 
-    pub closing_empty : t.kind ≡ Empty → Closing s from t.next depth
-    closing_empty q = step q empty_sound depth (omega arith) (rw (marked f Empty q) (seeks_empty (marks_at s t.next) at at (name_in s t) (name_in s t) depth))
-
     pub closing_ends : t.kind ≡ End → (depth ≡ 0 → ⊥) → Closing s from t.next (depth - 1)
     closing_ends q h = step q end_sound (depth - 1) (omega arith) (rw (marked f End q) (seeks_closes (marks_at s t.next) at (name_in s t) depth h))
 
-    pub closing_char : t.kind ≡ Char → Closing s from t.next depth
+    closing_empty : t.kind ≡ Empty → Closing s from t.next depth
+    closing_empty q = step q empty_sound depth (omega arith) (rw (marked f Empty q) (seeks_empty (marks_at s t.next) at at (name_in s t) (name_in s t) depth))
+
+    closing_char : t.kind ≡ Char → Closing s from t.next depth
     closing_char q = step q char_sound depth (omega arith) (rw (marked f Char q) (seeks_char (marks_at s t.next) at t.unit depth))
 
-    pub closing_reference : t.kind ≡ Reference → Closing s from t.next depth
+    closing_reference : t.kind ≡ Reference → Closing s from t.next depth
     closing_reference q = step q reference_sound depth (omega arith) (rw (marked f Reference q) (seeks_refers (marks_at s t.next) at (spell t.unit) depth))
+
+    pub closing_passes : (t.kind ≡ Empty) ⊎ ((t.kind ≡ Char) ⊎ (t.kind ≡ Reference)) → Closing s from t.next depth
+    closing_passes (inl q) = closing_empty q
+    closing_passes (inr (inl q)) = closing_char q
+    closing_passes (inr (inr q)) = closing_reference q
 
     pub closing_done : t.kind ≡ End → depth ≡ 0 → EndedAt s from (record { place = at; next = t.next })
     closing_done q z =
@@ -152,17 +158,13 @@ module _ {s : List ℕ} {from at depth : ℕ} (c : Closing s from at depth) wher
     pub closing_less_start : t.kind ≡ Start → length s - t.next < length s - at
     closing_less_start q = less q start_sound
 
-    pub closing_less_empty : t.kind ≡ Empty → length s - t.next < length s - at
-    closing_less_empty q = less q empty_sound
-
     pub closing_less_end : t.kind ≡ End → length s - t.next < length s - at
     closing_less_end q = less q end_sound
 
-    pub closing_less_char : t.kind ≡ Char → length s - t.next < length s - at
-    closing_less_char q = less q char_sound
-
-    pub closing_less_reference : t.kind ≡ Reference → length s - t.next < length s - at
-    closing_less_reference q = less q reference_sound
+    pub closing_less_passes : (t.kind ≡ Empty) ⊎ ((t.kind ≡ Char) ⊎ (t.kind ≡ Reference)) → length s - t.next < length s - at
+    closing_less_passes (inl q) = less q empty_sound
+    closing_less_passes (inr (inl q)) = less q char_sound
+    closing_less_passes (inr (inr q)) = less q reference_sound
 
 pub ruleset closing = (
   closing_start,
@@ -170,16 +172,12 @@ pub ruleset closing = (
   closing_plain,
   closing_less_plain,
   closing_starts,
-  closing_empty,
   closing_ends,
-  closing_char,
-  closing_reference,
+  closing_passes,
   closing_done,
   closing_fault,
   closing_less_start,
-  closing_less_empty,
   closing_less_end,
-  closing_less_char,
-  closing_less_reference,
+  closing_less_passes,
   rules,
 )

@@ -3,6 +3,7 @@
 --     head_less            a node takes bytes;   `search heads_found` for the answers of `node_head`
 use Rattle.std.specs.Prelude.{◌≡◌, refl, Bool, true, false, List, ℕ, ◌+◌, ◌-◌, ◌≤◌, ◌<◌, length, take, drop, get_or}
 use Rattle.std.proofs.Common.{sym, ap, subst, ◌∙◌, arith, rules}
+use Rattle.std.proofs.Math.Logic.{◌⊎◌, inl, inr}
 use Prim.{tt}
 use Rattle.octets.specs.Pick.{pick}
 use Rattle.octets.specs.laws.Scan.{drop_next}
@@ -22,7 +23,7 @@ use Rattle.read_xml_nodes.specs.HeadFound.{after_tag, end_of_tag, head_by, Takes
 use Rattle.read_xml_nodes.specs.declared.Ended.{Ended}
 use Rattle.read_xml_nodes.specs.declared.Head.{Head}
 use Rattle.read_xml_nodes.specs.declared.NodeKind.{NodeKind}
-use Rattle.read_xml_nodes.specs.declared.NodeKind.TheVariants.{None, Element, Literal, Referred}
+use Rattle.read_xml_nodes.specs.declared.NodeKind.TheVariants.{Absent, Element, Literal, Referred}
 use Rattle.read_xml_tokens.specs.declared.TokenAt.{TokenAt}
 use Rattle.read_xml_tokens.specs.declared.TokenKind.TheVariants.{Start, Empty, End, Char, Reference, Fault}
 
@@ -35,8 +36,8 @@ module _ {s : List ℕ} {at : ℕ} {h : Head} (n : HeadAt s at h) where
   takes_by : (k : NodeKind) → h.kind ≡ k → Takes k at h.inside h.next
   takes_by k q = subst (λ (x : NodeKind). Takes x at h.inside h.next) q n.takes
 
-  pub head_none : h.kind ≡ None → nodes_at s at ≡ no_nodes
-  head_none q = by_kind None q
+  pub head_none : h.kind ≡ Absent → nodes_at s at ≡ no_nodes
+  head_none q = by_kind Absent q
 
   pub tag_within : h.kind ≡ Element → h.next ≤ length s
   tag_within q = n.next_within
@@ -82,8 +83,12 @@ module _ {s : List ℕ} {at : ℕ} {h : Head} (n : HeadAt s at h) where
     pub head_referred_less : length s - h.next < length s - at
     head_referred_less = omega (arith, head_referred_onward, n.next_within)
 
+  pub head_character_less : (h.kind ≡ Literal) ⊎ (h.kind ≡ Referred) → length s - h.next < length s - at
+  head_character_less (inl q) = head_literal_less q
+  head_character_less (inr q) = head_referred_less q
+
 -- the measure of a walk falls with each node, and an element's end may be sought
-pub ruleset head_less = (tag_within, end_less, head_literal_less, head_referred_less)
+pub ruleset head_less = (tag_within, end_less, head_character_less)
 
 -- ---- what `node_end` answers
 
@@ -145,11 +150,9 @@ module _ {s : List ℕ} {at : ℕ} {t : TokenAt} (f : Reads token_in s at at t) 
   none_found : {r : Head} → r ≡ no_head (length s) → nodes_at s at ≡ no_nodes → HeadAt s at r
   none_found {r} e h = rw e (record { is = h; named = omega arith; name_within = omega arith; inside_within = omega arith; next_within = omega arith; takes = tt })
 
-  pub found_end : {r : Head} → t.kind ≡ End → r ≡ no_head (length s) → HeadAt s at r
-  found_end q e = none_found e (nodes_end s at _ _ (token_first f q end_sound) _ _ (token_is f q end_sound))
-
-  pub found_fault : {r : Head} → t.kind ≡ Fault → r ≡ no_head (length s) → HeadAt s at r
-  found_fault q e = none_found e (nodes_are s at ∙ (marked f Fault q 0).0)
+  pub found_none : {r : Head} → (t.kind ≡ End) ⊎ (t.kind ≡ Fault) → r ≡ no_head (length s) → HeadAt s at r
+  found_none (inl q) e = none_found e (nodes_end s at _ _ (token_first f q end_sound) _ _ (token_is f q end_sound))
+  found_none (inr q) e = none_found e (nodes_are s at ∙ (marked f Fault q 0).0)
 
   pub found_char : {r : Head} → t.kind ≡ Char → r ≡ character_head Literal (length s) t.unit t.next → HeadAt s at r
   found_char q e =
@@ -167,4 +170,4 @@ module _ {s : List ℕ} {at : ℕ} {t : TokenAt} (f : Reads token_in s at at t) 
         takes = b.0;
       })
 
-pub ruleset heads_found = (found_start, found_empty, found_end, found_fault, found_char, found_reference, found_plain, rules)
+pub ruleset heads_found = (found_start, found_empty, found_none, found_char, found_reference, found_plain, rules)

@@ -1,56 +1,43 @@
--- Laws of what specs/Judging.antt defines.
---     is_name .. is_count          the refusals that content is given
---     after_fine, after_refused    one check after another
---     unexpected_..                an element that has no place;   `search judging`
-use Rattle.std.specs.Prelude.{◌≡◌, refl, Bool, true, false, List, ℕ}
-use Rattle.std.proofs.Common.{sym, ◌∙◌, rules}
+-- Laws of what readers of elements find, as a verdict.
+--     passed_on              the fault that `?` hands on
+--     after_ok, after_err    one check after another
+--     unexpected_..          an element that has no place;   `search judging`
+use Rattle.std.specs.Prelude.{◌≡◌, ⊤, Bool, true, false, List, ℕ, Result, Ok, Err, IsErrAnd}
+use Rattle.std.proofs.Common.{sym, ◌∙◌, ap, rules}
+use Rattle.std.proofs.lemmas.Result.{err_from_is_err_and}
 use Rattle.octets.specs.laws.Pick.{pick_yes, pick_no}
-use Rattle.calendar.specs.Refusal.{NAME, FRAME, PARAMETER, VALUE, COUNT, Verdict, refuse, ◌otherwise◌, refusal_at}
+use Rattle.calendar.specs.Refusal.{Verdict, ◌otherwise◌}
+use Rattle.refusals.specs.Fault.{fault_at, judged_as}
+use Rattle.refusals.specs.declared.Refusal.TheVariants.{Name, Frame}
+use Rattle.refusals.specs.declared.Fault.{Fault}
 use Rattle.xcal.specs.Layout.{has_capital, unexpected}
-use Rattle.read_xml_nodes.specs.Judging.{judged_as}
-use Rattle.read_xml_nodes.specs.declared.Judged.{Judged}
-use Rattle.read_xml_nodes.specs.declared.Judged.TheVariants.{Fine, Refused}
 
--- ---- the refusals that content is given
+-- a fault, as a verdict
+abbrev pub refused_as : Fault → Verdict
+refused_as f = judged_as (Err f)
 
-pub is_name : (p : ℕ) → judged_as (Refused 5 p) ≡ refuse NAME p
-unfolding refusal_at
-is_name p = refl
-
-pub is_frame : (p : ℕ) → judged_as (Refused 6 p) ≡ refuse FRAME p
-unfolding refusal_at
-is_frame p = refl
-
-pub is_parameter : (p : ℕ) → judged_as (Refused 7 p) ≡ refuse PARAMETER p
-unfolding refusal_at
-is_parameter p = refl
-
-pub is_value : (p : ℕ) → judged_as (Refused 8 p) ≡ refuse VALUE p
-unfolding refusal_at
-is_value p = refl
-
-pub is_count : (p : ℕ) → judged_as (Refused 9 p) ≡ refuse COUNT p
-unfolding refusal_at
-is_count p = refl
+-- the fault that `?` hands on
+pub passed_on : {A : Type 0} (r : Result A Fault) (f : Fault) → IsErrAnd r (λ y. y ≡ f) → r ≡ Err f
+passed_on r f h = let p = err_from_is_err_and r h in p.1 ∙ ap Err p.2
 
 -- ---- one check after another
 
-module _ {v : Verdict} {j : Judged} (w : Verdict) (h : v ≡ judged_as j) where
-  pub after_fine : j ≡ Fine → (v otherwise w) ≡ w
+module _ {v : Verdict} {j : Result ⊤ Fault} (w : Verdict) (h : v ≡ judged_as j) where
+  pub after_ok : {u : ⊤} → j ≡ Ok u → (v otherwise w) ≡ w
   unfolding ◌otherwise◌
-  after_fine e = rw (h, e)
+  after_ok e = rw (h, e)
 
-  pub after_refused : {n p : ℕ} → j ≡ Refused n p → (v otherwise w) ≡ judged_as (Refused n p)
+  pub after_err : {f : Fault} → j ≡ Err f → (v otherwise w) ≡ judged_as (Err f)
   unfolding ◌otherwise◌
-  after_refused e = rw (h, e)
+  after_err e = rw (h, e)
 
 -- ---- an element that has no place
 
-module _ (nm : List ℕ) (p : ℕ) {b : Bool} (h : b ≡ has_capital nm) where
-  pub unexpected_name : b ≡ true → unexpected p nm ≡ judged_as (Refused 5 p)
-  unexpected_name e = pick_yes (has_capital nm) _ _ (sym h ∙ e) ∙ sym (is_name p)
+module _ (nm : List ℕ) (p : ℕ) {b : Bool} (h : b ≡ has_capital nm) {f : Fault} where
+  pub unexpected_name : b ≡ true → f ≡ fault_at Name p → unexpected p nm ≡ judged_as (Err f)
+  unexpected_name e q = pick_yes (has_capital nm) _ _ (sym h ∙ e) ∙ ap refused_as (sym q)
 
-  pub unexpected_frame : b ≡ false → unexpected p nm ≡ judged_as (Refused 6 p)
-  unexpected_frame e = pick_no (has_capital nm) _ _ (sym h ∙ e) ∙ sym (is_frame p)
+  pub unexpected_frame : b ≡ false → f ≡ fault_at Frame p → unexpected p nm ≡ judged_as (Err f)
+  unexpected_frame e q = pick_no (has_capital nm) _ _ (sym h ∙ e) ∙ ap refused_as (sym q)
 
 pub ruleset judging = (unexpected_name, unexpected_frame, rules)

@@ -3,6 +3,7 @@
 --     node_less_..       a node takes bytes;   `search nodes_found` for the answers of `next_node`
 use Rattle.std.specs.Prelude.{◌≡◌, List, ℕ, ◌-◌, ◌<◌, length, take}
 use Rattle.std.proofs.Common.{ap, subst, ◌∙◌, arith, rules}
+use Rattle.std.proofs.Math.Logic.{◌⊎◌, inl, inr}
 use Prim.{tt}
 use Rattle.utf8.specs.Spell.{spell}
 use Rattle.source.specs.Source.{rest}
@@ -15,7 +16,7 @@ use Rattle.read_xml_nodes.specs.declared.Ended.{Ended}
 use Rattle.read_xml_nodes.specs.declared.Head.{Head}
 use Rattle.read_xml_nodes.specs.declared.Node.{Node}
 use Rattle.read_xml_nodes.specs.declared.NodeKind.{NodeKind}
-use Rattle.read_xml_nodes.specs.declared.NodeKind.TheVariants.{None, Element, Literal, Referred}
+use Rattle.read_xml_nodes.specs.declared.NodeKind.TheVariants.{Absent, Element, Literal, Referred}
 
 -- ---- by the kind of node
 
@@ -26,8 +27,8 @@ module _ {s : List ℕ} {at : ℕ} {r : Node} (n : NodeAt s at r) where
   takes_by : (k : NodeKind) → r.kind ≡ k → Takes k at r.inside r.next
   takes_by k q = subst (λ (x : NodeKind). Takes x at r.inside r.next) q n.takes
 
-  pub node_none : r.kind ≡ None → nodes_at s at ≡ no_nodes
-  node_none q = by_kind None q
+  pub node_none : r.kind ≡ Absent → nodes_at s at ≡ no_nodes
+  node_none q = by_kind Absent q
 
   module _ (q : r.kind ≡ Element) where
     pub node_element : nodes_at s at ≡ element at (rest 0 (take r.name_end s) r.name) r.end (nodes_at s r.inside) (nodes_at s r.next)
@@ -62,13 +63,17 @@ module _ {s : List ℕ} {at : ℕ} {r : Node} (n : NodeAt s at r) where
     pub referred_less : length s - r.next < length s - at
     referred_less = omega (arith, referred_onward, n.next_within)
 
+  pub character_less : (r.kind ≡ Literal) ⊎ (r.kind ≡ Referred) → length s - r.next < length s - at
+  character_less (inl q) = literal_less q
+  character_less (inr q) = referred_less q
+
 -- the measure of a walk falls with each node
-pub ruleset node_less = (element_less, inside_less, literal_less, referred_less)
+pub ruleset node_less = (element_less, inside_less, literal_less, referred_less, character_less)
 
 -- ---- what `next_node` answers
 
 module _ {s : List ℕ} {at : ℕ} {h : Head} (n : HeadAt s at h) where
-  pub whole_none : {r : Node} → h.kind ≡ None → r ≡ no_node (length s) → NodeAt s at r
+  pub whole_none : {r : Node} → h.kind ≡ Absent → r ≡ no_node (length s) → NodeAt s at r
   whole_none q e = rw e (record { is = head_none n q; named = omega arith; name_within = omega arith; inside_within = omega arith; next_within = omega arith; takes = tt })
 
   pub whole_element : {e : Ended} → h.kind ≡ Element → NodeEnded s at h.opens h.next e →

@@ -5,6 +5,7 @@ use Rattle.std.proofs.Math.Path.{refl}
 use Rattle.std.proofs.Common.{sym, ◌∙◌, arith, rules, ltb-true, ltb-false}
 use Rattle.std.proofs.Math.Bool.{true, false}
 use Rattle.std.proofs.Math.Dec.{ltb}
+use Rattle.std.proofs.Math.Logic.{◌⊎◌, inl, inr}
 use Rattle.calendar.specs.Refusal.{XML, Verdict, fine, refuse}
 use Rattle.xml.specs.Prolog.{prolog}
 use Rattle.xml.specs.Marks.{document_marks}
@@ -54,16 +55,11 @@ module _ {s : List ℕ} {t : TokenAt} (x : RootAt s t) where
       go true q = rw (marked.root_fault x k (ltb-true (prolog s) (length s) q))
       go false q = rw (marked.root_none x (ltb-false (prolog s) (length s) q))
 
-  pub root_fault : {r : Element} → t.kind ≡ Fault → r ≡ no_root → RootNode s r
-  root_fault k e = rw e (record { is = λ h. not_fine (formed_fault x k).is h; found = λ h. absurd (h (none_there k)); missing = λ h. refl; name_within = omega arith })
+  pub root_missing : {r : Element} → (t.kind ≡ End) ⊎ ((t.kind ≡ Char) ⊎ ((t.kind ≡ Reference) ⊎ (t.kind ≡ Fault))) → r ≡ no_root → RootNode s r
+  root_missing (inl k) e = root_other x End k refl
+  root_missing (inr (inl k)) e = root_other x Char k refl
+  root_missing (inr (inr (inl k))) e = root_other x Reference k refl
+  root_missing (inr (inr (inr k))) e =
+      rw e (record { is = λ h. not_fine (formed_fault x k).is h; found = λ h. absurd (h (none_there k)); missing = λ h. refl; name_within = omega arith })
 
-  pub root_end : {r : Element} → t.kind ≡ End → RootNode s r
-  root_end k = root_other x End k refl
-
-  pub root_char : {r : Element} → t.kind ≡ Char → RootNode s r
-  root_char k = root_other x Char k refl
-
-  pub root_reference : {r : Element} → t.kind ≡ Reference → RootNode s r
-  root_reference k = root_other x Reference k refl
-
-pub ruleset roots = (start_within, root_start, root_empty, root_fault, root_end, root_char, root_reference, rules)
+pub ruleset roots = (start_within, root_start, root_empty, root_missing, rules)

@@ -3,10 +3,10 @@
 --     Skips f      characters say nothing to f
 --     firsts       the walk to the first element;   first_asked: whether there is one, and its refusal
 --     Capitals     the invariant of the look for a capital;   `search capitals`
-use Rattle.std.specs.Prelude.{◌≡◌, refl, Bool, true, false, List, ℕ, ◌+◌, ◌-◌, ◌*◌, ◌≤◌, ◌<◌, length, take, get_or}
+use Rattle.std.specs.Prelude.{◌≡◌, refl, Bool, true, false, List, ℕ, ◌+◌, ◌-◌, ◌*◌, ◌≤◌, ◌<◌, length, take, get_or, Option, None, Some, Ok, option_map, is_some}
 use Rattle.std.proofs.Math.Path.{sym, ap}
 use Rattle.std.proofs.Common.{◌∙◌, arith, take_all, rules}
-use Rattle.std.proofs.Math.Option.{Option, none, some}
+use Rattle.std.proofs.Math.Logic.{◌⊎◌, inl, inr}
 use Rattle.octets.specs.Pick.{◌or◌}
 use Rattle.octets.specs.Class.{is_capital}
 use Rattle.calendar.specs.Refusal.{Verdict, fine}
@@ -17,16 +17,14 @@ use Rattle.xml.specs.Nodes.{Nodes, no_nodes, element, literal, referred, has_ele
 use Rattle.xcal.specs.Layout.{has_capital, unexpected, inner_element}
 use Rattle.xml.specs.NodesAt.{nodes_at}
 use Rattle.xml.specs.laws.NodesAt.{nodes_none}
-use Rattle.read_xml_nodes.specs.First.{first_element, first_as}
+use Rattle.read_xml_nodes.specs.First.{first_element, first_of}
 use Rattle.read_xml_nodes.specs.Plain.{is_plain}
 use Rattle.read_xml_nodes.specs.HeadFound.{HeadAt}
-use Rattle.read_xml_nodes.specs.laws.HeadFound.{nodes_plain, head_none, head_element, head_literal, head_referred, head_literal_less, head_referred_less}
-use Rattle.read_xml_nodes.specs.Judging.{judged_as}
-use Rattle.read_xml_nodes.specs.declared.Judged.TheVariants.{Fine}
+use Rattle.read_xml_nodes.specs.laws.HeadFound.{nodes_plain, head_none, head_element, head_literal, head_referred, head_character_less}
+use Rattle.refusals.specs.Fault.{judged_as}
 use Rattle.read_xml_nodes.specs.declared.first.FirstElement.{FirstElement}
-use Rattle.read_xml_nodes.specs.declared.first.FirstElement.TheVariants.{At, NoElement}
 use Rattle.read_xml_nodes.specs.declared.Head.{Head}
-use Rattle.read_xml_nodes.specs.declared.NodeKind.TheVariants.{None, Element, Literal, Referred}
+use Rattle.read_xml_nodes.specs.declared.NodeKind.TheVariants.{Absent, Element, Literal, Referred}
 
 pub record Passing {A : Type 0} (f : Nodes → A) (s : List ℕ) (from at : ℕ) : Type 0 where
   pub is : f (nodes_at s from) ≡ f (nodes_at s at)
@@ -50,6 +48,10 @@ module _ {A : Type 0} {f : Nodes → A} (k : Skips f) {s : List ℕ} {from at : 
     pass_referred : r.kind ≡ Referred → Passing f s from r.next
     pass_referred q = record { is = p.is ∙ ap f (head_referred n q) ∙ k.over_referred _ _ _ }
 
+    pub pass_character : (r.kind ≡ Literal) ⊎ (r.kind ≡ Referred) → Passing f s from r.next
+    pass_character (inl q) = pass_literal q
+    pass_character (inr q) = pass_referred q
+
 pub plain_less : (s : List ℕ) (at : ℕ) → at < length s → length s - (at + 1) < length s - at
 plain_less s at h = omega arith
 
@@ -60,7 +62,7 @@ unfolding first_element
 first_skips = record { over_literal = λ p b m. refl; over_referred = λ p bs m. refl }
 
 module _ {s : List ℕ} {from at : ℕ} (p : Passing first_element s from at) where
-  pub first_past : length s ≤ at → first_element (nodes_at s from) ≡ first_as s NoElement
+  pub first_past : length s ≤ at → first_element (nodes_at s from) ≡ None
   unfolding first_element
   first_past h = p.is ∙ ap first_element (nodes_none s at h)
 
@@ -68,27 +70,24 @@ module _ {s : List ℕ} {from at : ℕ} (p : Passing first_element s from at) wh
   first_plain h e q y = pass_plain first_skips p h e q y
 
   module _ {r : Head} (n : HeadAt s at r) where
-    pub first_none : r.kind ≡ None → first_element (nodes_at s from) ≡ first_as s NoElement
+    pub first_none : r.kind ≡ Absent → first_element (nodes_at s from) ≡ None
     unfolding first_element
     first_none q = p.is ∙ ap first_element (head_none n q)
 
-    pub first_here : r.kind ≡ Element → first_element (nodes_at s from) ≡ first_as s (At at r.name r.name_end)
+    pub first_here : r.kind ≡ Element → first_element (nodes_at s from) ≡ Some (at, rest 0 (take r.name_end s) r.name)
     unfolding first_element
     first_here q = p.is ∙ ap first_element (head_element n q)
 
-    pub first_literal : r.kind ≡ Literal → Passing first_element s from r.next
-    first_literal q = pass_literal first_skips p n q
+    pub first_character : (r.kind ≡ Literal) ⊎ (r.kind ≡ Referred) → Passing first_element s from r.next
+    first_character q = pass_character first_skips p n q
 
-    pub first_referred : r.kind ≡ Referred → Passing first_element s from r.next
-    first_referred q = pass_referred first_skips p n q
-
-pub ruleset firsts = (passing_start, first_past, first_plain, first_none, first_here, first_literal, first_referred, plain_less, head_literal_less, head_referred_less, rules)
+pub ruleset firsts = (passing_start, first_past, first_plain, first_none, first_here, first_character, plain_less, head_character_less, rules)
 
 -- ---- what is asked of it
 
 abbrev stands : Option (ℕ × List ℕ) → Bool
-stands none = false
-stands (some f) = true
+stands None = false
+stands (Some f) = true
 
 has_is : (kids : Nodes) → has_element kids ≡ stands (first_element kids)
 unfolding has_element first_element
@@ -98,8 +97,8 @@ has_is (literal p b more) = has_is more
 has_is (referred p bs more) = has_is more
 
 abbrev refused : Option (ℕ × List ℕ) → Verdict
-refused none = fine
-refused (some f) = unexpected f.0 f.1
+refused None = fine
+refused (Some f) = unexpected f.0 f.1
 
 inner_is : (kids : Nodes) → inner_element kids ≡ refused (first_element kids)
 unfolding inner_element first_element
@@ -108,21 +107,21 @@ inner_is (element p n x kids more) = refl
 inner_is (literal p b more) = inner_is more
 inner_is (referred p bs more) = inner_is more
 
-module _ (s : List ℕ) (at : ℕ) {r : FirstElement} (e : first_element (nodes_at s at) ≡ first_as s r) where
-  module _ {p a x : ℕ} (q : r ≡ At p a x) where
-    pub has_some : true ≡ has_element (nodes_at s at)
-    has_some = sym (has_is (nodes_at s at) ∙ ap stands (e ∙ ap (first_as s) q))
+module _ (s : List ℕ) (at : ℕ) (r : Option FirstElement) (e : first_element (nodes_at s at) ≡ option_map (first_of s) r) where
+  pub has_first : is_some r ≡ has_element (nodes_at s at)
+  has_first = sym (has_is (nodes_at s at) ∙ ap stands e ∙ go r)
+    where
+      go : (o : Option FirstElement) → stands (option_map (first_of s) o) ≡ is_some o
+      go None = refl
+      go (Some f) = refl
 
-    pub inner_some : {v : Verdict} → unexpected p (rest 0 (take x s) a) ≡ v → inner_element (nodes_at s at) ≡ v
-    inner_some h = inner_is (nodes_at s at) ∙ ap refused (e ∙ ap (first_as s) q) ∙ h
+  pub inner_some : {f : FirstElement} → r ≡ Some f → {v : Verdict} → unexpected f.place (rest 0 (take f.name_end s) f.name) ≡ v → inner_element (nodes_at s at) ≡ v
+  inner_some q h = inner_is (nodes_at s at) ∙ ap refused (e ∙ ap (option_map (first_of s)) q) ∙ h
 
-  pub has_no : r ≡ NoElement → false ≡ has_element (nodes_at s at)
-  has_no q = sym (has_is (nodes_at s at) ∙ ap stands (e ∙ ap (first_as s) q))
+  pub inner_no : r ≡ None → inner_element (nodes_at s at) ≡ judged_as (Ok tt)
+  inner_no q = inner_is (nodes_at s at) ∙ ap refused (e ∙ ap (option_map (first_of s)) q)
 
-  pub inner_no : r ≡ NoElement → inner_element (nodes_at s at) ≡ judged_as Fine
-  inner_no q = inner_is (nodes_at s at) ∙ ap refused (e ∙ ap (first_as s) q)
-
-pub ruleset first_asked = (has_some, has_no, inner_some, inner_no, rules)
+pub ruleset first_asked = (has_first, inner_some, inner_no, rules)
 
 -- ---- capitals
 

@@ -18,7 +18,7 @@ use Rattle.read_xml_nodes.specs.NodeFound.{NodeAt}
 use Rattle.read_xml_nodes.specs.laws.NodeFound.{node_none, node_element, node_literal, node_referred, element_onward, literal_onward, referred_onward, literal_less, referred_less}
 use Rattle.read_xml_nodes.specs.laws.Walks.{Passing, passing_start, Skips}
 use Rattle.read_xml_nodes.specs.declared.Node.{Node}
-use Rattle.read_xml_nodes.specs.declared.NodeKind.TheVariants.{None, Element, Literal, Referred}
+use Rattle.read_xml_nodes.specs.declared.NodeKind.TheVariants.{Absent, Element, Literal, Referred}
 use Rattle.read_xml_parameters.specs.Children.{from_element, name_of, child_of, ChildAt}
 use Rattle.read_xml_parameters.specs.declared.Child.{Child}
 
@@ -52,7 +52,7 @@ module _ {s : List ℕ} {from at : ℕ} {r : Node} (l : Looking s from at) (n : 
   unfolding from_element
   looking_referred q = record { is = l.is ∙ ap from_element (node_referred n q); low = omega (arith, referred_onward n q, l.low) }
 
-  pub child_missing : r.kind ≡ None → ChildAt s from (record { there = false; place = at; name = 0; name_end = 0; inside = length s; end = 0; next = length s })
+  pub child_missing : r.kind ≡ Absent → ChildAt s from (record { there = false; place = at; name = 0; name_end = 0; inside = length s; end = 0; next = length s })
   unfolding from_element
   child_missing q = record {
     some = λ h. let z : ◌≡◌ {A = ℕ} 0 1 = cc in absurd (omega arith);

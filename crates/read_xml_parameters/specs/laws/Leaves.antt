@@ -1,15 +1,15 @@
 -- Laws of what specs/Leaves.antt defines.
 --     Holding          the invariant of the look for a byte;   `search holding`
+--     word_kept        a word of a closed set was read
 --     chosen_..        a word of a closed set, or a value of the type
 --     leaf_..          a value is characters alone
 --     type_words       the names of the types' elements, by the types' numbers;   type_word: compared by number
 --     value_..         an element that is a value
-use Rattle.std.specs.Prelude.{◌≡◌, Bool, List, ℕ, ◌-◌, ◌*◌, ◌<◌, length}
+use Rattle.std.specs.Prelude.{◌≡◌, Bool, List, ℕ, ◌-◌, ◌*◌, ◌<◌, length, Option, None, Some, is_some}
 use Rattle.std.proofs.Math.Path.{refl, sym}
 use Rattle.std.proofs.Common.{ap, ◌∙◌, arith, rules}
 use Rattle.std.proofs.Math.Bool.{true, false}
 use Rattle.std.proofs.lemmas.Bool.{false≢true}
-use Rattle.std.proofs.Math.Option.{Option, none, some}
 use borrow.Author.Tests.{eq-eqb, ne_eqb}
 use Rattle.octets.specs.Ascii.{ascii}
 use Rattle.octets.specs.Pick.{pick, ◌or◌}
@@ -26,13 +26,20 @@ use Rattle.schema.specs.laws.Types.{place_type}
 use Rattle.schema.specs.Parameters.{ParameterRow}
 use Rattle.schema.specs.Numbers.{type_at, parameter_at, type_words}
 use Rattle.schema.specs.laws.Numbers.{type_words_are}
-use Rattle.schema.specs.Sets.{is_word_of, parameter_words_at}
+use Rattle.schema.specs.Sets.{is_word_of, parameter_words_at, word_in}
+use Rattle.schema.specs.laws.Sets.{word_yes, word_no}
 use Rattle.schema.specs.laws.Places.{type_word}
 use Rattle.values.specs.ReadValue.{read_value}
 use Rattle.xml.specs.Nodes.{Nodes, characters_of, has_element}
 use Rattle.xcal.specs.ParameterNodes.{read_word_in}
 use Rattle.read_xml_parameters.specs.Rows.{row_at, read_leaf}
 use Rattle.read_xml_parameters.specs.Leaves.{is_value}
+
+-- ---- a word
+
+pub word_kept : (o : Option (List (List ℕ))) (w : List ℕ) (r : Option ℕ) → r ≡ word_in o w → is_some r ≡ is_word_of o w
+word_kept o w None e = word_no o w e refl
+word_kept o w (Some i) e = word_yes o w e refl
 
 -- ---- a byte
 
@@ -64,7 +71,7 @@ pub ruleset holding = (holding_start, holding_end, holding_here, holding_more, h
 -- ---- a word of a closed set, or a value of the type
 
 module _ (q : ℕ) (l : List ℕ) {a : Bool} (e : a ≡ is_read (parameter_words_at q)) where
-  tested : (b : Bool) (v : Value) → b ≡ is_read (pick b (some v) none)
+  tested : (b : Bool) (v : Value) → b ≡ is_read (pick b (Some v) None)
   unfolding is_read pick
   tested true v = refl
   tested false v = refl
@@ -74,25 +81,25 @@ module _ (q : ℕ) (l : List ℕ) {a : Bool} (e : a ≡ is_read (parameter_words
   chosen_word {r} h p = go (parameter_words_at q) (sym e ∙ h) p
     where
       go : (o : Option (List (List ℕ))) → is_read o ≡ true → r ≡ is_word_of o l → r ≡ is_read (read_word_in o (parameter_at q).type l)
-      go none k w = absurd (false≢true k)
-      go (some ws) k w = w ∙ tested (is_one_of l ws) _
+      go None k w = absurd (false≢true k)
+      go (Some ws) k w = w ∙ tested (is_one_of l ws) _
 
   module _ {t : ℕ} (h : a ≡ false) (i : t ≡ type_place (parameter_at q).type) where
-    of_type : {r : Bool} → r ≡ is_read (read_word_in none (parameter_at q).type l) → r ≡ is_read (read_word_in (row_at q).words (row_at q).type l)
+    of_type : {r : Bool} → r ≡ is_read (read_word_in None (parameter_at q).type l) → r ≡ is_read (read_word_in (row_at q).words (row_at q).type l)
     unfolding row_at is_read
     of_type {r} p = go (parameter_words_at q) (sym e ∙ h)
       where
         go : (o : Option (List (List ℕ))) → is_read o ≡ false → r ≡ is_read (read_word_in o (parameter_at q).type l)
-        go none k = p
-        go (some ws) k = absurd (false≢true (sym k))
+        go None k = p
+        go (Some ws) k = absurd (false≢true (sym k))
 
     pub chosen_any : t ≡ 14 → true ≡ is_read (read_word_in (row_at q).words (row_at q).type l)
     unfolding is_read same_type
-    chosen_any k = of_type (ap is_read (sym (pick_yes _ (some (unknown l)) _ (eq-eqb _ _ (sym i ∙ k)))))
+    chosen_any k = of_type (ap is_read (sym (pick_yes _ (Some (unknown l)) _ (eq-eqb _ _ (sym i ∙ k)))))
 
     pub chosen_other : {r : Bool} → (t ≡ 14 → ⊥) → r ≡ is_read (read_value xcal (type_at t) l) → r ≡ is_read (read_word_in (row_at q).words (row_at q).type l)
     unfolding same_type
-    chosen_other {r} k p = of_type (p ∙ rw (i, place_type (parameter_at q).type) (ap is_read (sym (pick_no _ (some (unknown l)) _ (ne_eqb _ _ (λ z. k (i ∙ z)))))))
+    chosen_other {r} k p = of_type (p ∙ rw (i, place_type (parameter_at q).type) (ap is_read (sym (pick_no _ (Some (unknown l)) _ (ne_eqb _ _ (λ z. k (i ∙ z)))))))
 
 -- ---- characters alone
 

@@ -2,10 +2,9 @@
 --     row_named    of a name's number
 --     leaves_are    they are what xcal reads of the name
 --     literal_read, element_read values that were read, by the first node
-use Rattle.std.specs.Prelude.{◌≡◌, refl, Bool, ℕ}
+use Rattle.std.specs.Prelude.{◌≡◌, refl, Bool, ℕ, None, Some}
 use Rattle.std.proofs.Math.Bool.{true, false}
 use mathlib.Core.List.{List, ◌∷◌}
-use Rattle.std.proofs.Math.Option.{none, some}
 use Rattle.octets.specs.Pick.{pick}
 use Rattle.octets.specs.Class.{lower, is_space}
 use Rattle.octets.specs.Words.{same}
@@ -32,21 +31,21 @@ leaves_are n (referred p bs more) = refl
 leaves_are n (element p m x kids more) = rw (leaves_are n more)
 
 module _ (r : ParameterRow) (vs : List Value) where
-  pub literal_read : (p b : ℕ) (more : Nodes) → read_leaves r (literal p b more) ≡ some vs → read_leaves r more ≡ some vs
+  pub literal_read : (p b : ℕ) (more : Nodes) → read_leaves r (literal p b more) ≡ Some vs → read_leaves r more ≡ Some vs
   unfolding read_leaves pick
   literal_read p b more h = go (is_space b) h
     where
-      go : (t : Bool) → pick t (read_leaves r more) none ≡ some vs → read_leaves r more ≡ some vs
+      go : (t : Bool) → pick t (read_leaves r more) None ≡ Some vs → read_leaves r more ≡ Some vs
       go true e = e
       go false e = none-some e
 
-  pub element_read : (p : ℕ) (m : List ℕ) (x : ℕ) (kids more : Nodes) → read_leaves r (element p m x kids more) ≡ some vs →
-      (v : Value) × (read_leaf r kids ≡ some v) × (l : List Value) × (read_leaves r more ≡ some l) × (v ∷ l ≡ vs)
+  pub element_read : (p : ℕ) (m : List ℕ) (x : ℕ) (kids more : Nodes) → read_leaves r (element p m x kids more) ≡ Some vs →
+      (v : Value) × (read_leaf r kids ≡ Some v) × (l : List Value) × (read_leaves r more ≡ Some l) × (v ∷ l ≡ vs)
   unfolding read_leaves pick
   element_read p m x kids more h = go (same m (lower (type_name r.type))) h
     where
-      go : (t : Bool) → pick t (and_then (read_leaf r kids) (λ v. cons_read v (read_leaves r more))) none ≡ some vs →
-          (v : Value) × (read_leaf r kids ≡ some v) × (l : List Value) × (read_leaves r more ≡ some l) × (v ∷ l ≡ vs)
+      go : (t : Bool) → pick t (and_then (read_leaf r kids) (λ v. cons_read v (read_leaves r more))) None ≡ Some vs →
+          (v : Value) × (read_leaf r kids ≡ Some v) × (l : List Value) × (read_leaves r more ≡ Some l) × (v ∷ l ≡ vs)
       go true e =
           let a = and_then-some (read_leaf r kids) (λ v. cons_read v (read_leaves r more)) vs e in
           let b = cons_read-some a.0 (read_leaves r more) vs a.2 in

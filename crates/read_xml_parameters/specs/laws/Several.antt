@@ -4,10 +4,9 @@
 --     good_is                   what `values_good` asks for
 --     first_is_lem              the first value's characters are a word
 --     all_.., single_.., good_.., first_.., plain_.., spelled_..    for code
-use Rattle.std.specs.Prelude.{◌≡◌, refl, Bool, true, false, not, List, [], ℕ}
+use Rattle.std.specs.Prelude.{◌≡◌, refl, Bool, true, false, not, List, [], ℕ, Option, None, Some}
 use Rattle.std.proofs.Math.Path.{sym, ap}
 use Rattle.std.proofs.Common.{◌∙◌, rules}
-use Rattle.std.proofs.Math.Option.{Option, none, some}
 use Rattle.octets.specs.Ascii.{ascii}
 use Rattle.octets.specs.Pick.{pick, ◌and◌, ◌or◌}
 use Rattle.octets.specs.Class.{lower, is_space}
@@ -27,7 +26,7 @@ use Rattle.read_xml_nodes.specs.NodeFound.{NodeAt}
 use Rattle.read_xml_nodes.specs.laws.NodeFound.{node_none, node_literal, node_referred, element_less, literal_less}
 use Rattle.read_xml_nodes.specs.laws.Walks.{Passing, passing_start, Skips}
 use Rattle.read_xml_nodes.specs.declared.Node.{Node}
-use Rattle.read_xml_nodes.specs.declared.NodeKind.TheVariants.{None, Element, Literal, Referred}
+use Rattle.read_xml_nodes.specs.declared.NodeKind.TheVariants.{Absent, Element, Literal, Referred}
 use Rattle.read_xml_parameters.specs.Children.{ChildAt, name_of}
 use Rattle.read_xml_parameters.specs.laws.Children.{node_named, children_none, children_some, child_less}
 use Rattle.read_xml_parameters.specs.Rows.{row_at, read_leaf, read_leaves}
@@ -43,24 +42,24 @@ unfolding all_values read_leaves is_read pick ◌and◌ and_then cons_read
 all_read r no_nodes = refl
 all_read r (literal p b more) = go (is_space b) (all_read r more)
   where
-    go : (t : Bool) → is_read (read_leaves r more) ≡ all_values r more → is_read (pick t (read_leaves r more) none) ≡ (t and all_values r more)
+    go : (t : Bool) → is_read (read_leaves r more) ≡ all_values r more → is_read (pick t (read_leaves r more) None) ≡ (t and all_values r more)
     go true e = e
     go false e = refl
 all_read r (referred p bs more) = refl
 all_read r (element p m x kids more) = go (same m (lower (type_name r.type))) (read_leaf r kids) (all_read r more)
   where
     of : (o : Option (List Value)) (v : Value) → is_read (cons_read v o) ≡ is_read o
-    of none v = refl
-    of (some vs) v = refl
+    of None v = refl
+    of (Some vs) v = refl
 
     go : (t : Bool) (o : Option Value) → is_read (read_leaves r more) ≡ all_values r more →
-        is_read (pick t (and_then o (λ v. cons_read v (read_leaves r more))) none) ≡ ((t and is_read o) and all_values r more)
-    go true none e = refl
-    go true (some v) e = of (read_leaves r more) v ∙ e
+        is_read (pick t (and_then o (λ v. cons_read v (read_leaves r more))) None) ≡ ((t and is_read o) and all_values r more)
+    go true None e = refl
+    go true (Some v) e = of (read_leaves r more) v ∙ e
     go false o e = refl
 
 module _ (r : ParameterRow) {s : List ℕ} {from at : ℕ} {n : Node} (p : Passing (all_values r) s from at) (a : NodeAt s at n) where
-  pub all_none : n.kind ≡ None → true ≡ all_values r (nodes_at s from)
+  pub all_none : n.kind ≡ Absent → true ≡ all_values r (nodes_at s from)
   unfolding all_values
   all_none q = sym (p.is ∙ ap (all_values r) (node_none a q))
 
@@ -91,14 +90,14 @@ pub ruleset valued = (passing_start, all_none, all_referred, all_space, all_char
 -- ---- how many
 
 -- values that were read are none exactly where there is no element
-read_empty : (r : ParameterRow) (kids : Nodes) (vs : List Value) → read_leaves r kids ≡ some vs → not (has_element kids) ≡ is_empty vs
+read_empty : (r : ParameterRow) (kids : Nodes) (vs : List Value) → read_leaves r kids ≡ Some vs → not (has_element kids) ≡ is_empty vs
 unfolding read_leaves has_element pick
 read_empty r no_nodes vs h = let z : [] ≡ vs = cc in rw (← z)
 read_empty r (literal p b more) vs h = read_empty r more vs (literal_read r vs p b more h)
 read_empty r (referred p bs more) vs h = none-some h
 read_empty r (element p m x kids more) vs h = let a = element_read r vs p m x kids more h in rw (← a.4)
 
-pub amount_is : (listed : Bool) (r : ParameterRow) (kids : Nodes) (vs : List Value) → read_leaves r kids ≡ some vs → as_many listed vs ≡ (listed or is_single kids)
+pub amount_is : (listed : Bool) (r : ParameterRow) (kids : Nodes) (vs : List Value) → read_leaves r kids ≡ Some vs → as_many listed vs ≡ (listed or is_single kids)
 unfolding read_leaves is_single pick ◌or◌
 amount_is listed r no_nodes vs h = let z : [] ≡ vs = cc in rw (← z) (always listed)
   where
@@ -114,8 +113,8 @@ unfolding good_by is_read ◌and◌
 good_is r kids = rw (← (all_read r kids)) (go (read_leaves r kids) refl)
   where
     go : (o : Option (List Value)) → read_leaves r kids ≡ o → values_good r.listed o ≡ (is_read o and (r.listed or is_single kids))
-    go none e = refl
-    go (some vs) e = amount_is r.listed r kids vs e
+    go None e = refl
+    go (Some vs) e = amount_is r.listed r kids vs e
 
 skips_single : Skips is_single
 unfolding is_single
@@ -152,18 +151,18 @@ module _ (q : ℕ) (kids : Nodes) {a : Bool} (e : a ≡ all_values (row_at q) ki
 -- ---- the first
 
 -- a word of a closed set, as it was read
-word_read : (r : ParameterRow) (ws : List (List ℕ)) → r.words ≡ some ws → (kids : Nodes) (v : Value) → read_leaf r kids ≡ some v → text (characters_of kids) ≡ v
+word_read : (r : ParameterRow) (ws : List (List ℕ)) → r.words ≡ Some ws → (kids : Nodes) (v : Value) → read_leaf r kids ≡ Some v → text (characters_of kids) ≡ v
 unfolding read_leaf pick
 word_read r ws k kids v h = go (has_element kids) h
   where
-    go : (t : Bool) → pick t none (read_word_in r.words r.type (characters_of kids)) ≡ some v → text (characters_of kids) ≡ v
+    go : (t : Bool) → pick t None (read_word_in r.words r.type (characters_of kids)) ≡ Some v → text (characters_of kids) ≡ v
     go true e = none-some e
     go false e =
         (provided-some (is_one_of (characters_of kids) ws) (text (characters_of kids)) v
         (ap (λ (o : Option (List (List ℕ))). read_word_in o r.type (characters_of kids)) (sym k) ∙ e)).1
 
 -- the first of the words that were read
-pub first_is_lem : (r : ParameterRow) (ws : List (List ℕ)) → r.words ≡ some ws → (kids : Nodes) (vs : List Value) → read_leaves r kids ≡ some vs → are_base64 vs ≡ first_is (ascii "BASE64") kids
+pub first_is_lem : (r : ParameterRow) (ws : List (List ℕ)) → r.words ≡ Some ws → (kids : Nodes) (vs : List Value) → read_leaves r kids ≡ Some vs → are_base64 vs ≡ first_is (ascii "BASE64") kids
 unfolding read_leaves first_is pick read_or
 first_is_lem r ws k no_nodes vs h = let z : [] ≡ vs = cc in rw (← z)
 first_is_lem r ws k (literal p b more) vs h = first_is_lem r ws k more vs (literal_read r vs p b more h)

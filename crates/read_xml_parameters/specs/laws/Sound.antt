@@ -2,13 +2,12 @@
 --     bad_..                 a name that no parameter has
 --     encoded_..    for code
 --     sound_is    the same of names
-use Rattle.std.specs.Prelude.{◌≡◌, Bool, ℕ, ◌≤◌, length, take}
+use Rattle.std.specs.Prelude.{◌≡◌, Bool, ℕ, ◌≤◌, length, take, Option, None, Some}
 use Rattle.std.proofs.Math.Path.{refl, sym}
 use Rattle.std.proofs.Common.{ap, ◌∙◌}
 use Rattle.std.proofs.Math.Bool.{true, false, not}
 use Rattle.std.proofs.lemmas.Bool.{false≢true}
 use mathlib.Core.List.{List, []}
-use Rattle.std.proofs.Math.Option.{Option, none, some}
 use Rattle.std.proofs.Math.Dec.{eqb}
 use Rattle.std.proofs.Math.Seq.{take-length}
 use borrow.Author.Tests.{eq-eqb, ne_eqb, eqb-true}
@@ -90,7 +89,7 @@ encoding_place : place_of (ascii "ENCODING") parameter_names ≡ 6
 unfolding octets_compute place_of
 encoding_place = refl
 
-encoding_words : (row_at 6).words ≡ some encodings
+encoding_words : (row_at 6).words ≡ Some encodings
 unfolding row_at
 encoding_words = refl
 
@@ -110,8 +109,8 @@ module _ (n : List ℕ) (kids : Nodes) where
     base64 h = rw leaves_at (go (read_leaves (row_at (place_of n parameter_names)) kids) refl (all_read _ kids ∙ (and_both _ _ g).0))
       where
         go : (o : Option (List Value)) → read_leaves (row_at (place_of n parameter_names)) kids ≡ o → is_read o ≡ true → first_is (ascii "BASE64") kids ≡ are_base64 (read_or [] o)
-        go none e z = absurd (false≢true z)
-        go (some vs) e z = sym (first_is_lem (row_at (place_of n parameter_names)) encodings (rw h encoding_words) kids vs e)
+        go None e z = absurd (false≢true z)
+        go (Some vs) e z = sym (first_is_lem (row_at (place_of n parameter_names)) encodings (rw h encoding_words) kids vs e)
 
     encoded_is : encoded_by (place_of n parameter_names) t kids ≡ encodes n (type_at t) kids
     unfolding encoded_by same_type ◌and◌ ◌or◌

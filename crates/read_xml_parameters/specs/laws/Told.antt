@@ -3,7 +3,7 @@
 --     against_..    for code
 --     verdict_is         it is the verdict of xcal, where the names before its place are those seen
 --     Told               the invariant of the walk over them;   told_..: its laws
-use Rattle.std.specs.Prelude.{◌≡◌, Bool, List, [], ◌∷◌, ℕ, ◌+◌, ◌≤◌, ltb}
+use Rattle.std.specs.Prelude.{◌≡◌, ⊤, Bool, List, [], ◌∷◌, ℕ, ◌+◌, ◌≤◌, ltb, Result, Ok, Err}
 use Rattle.std.proofs.Math.Path.{refl, sym, ap}
 use Rattle.std.proofs.Common.{◌∙◌, arith, rules}
 use Rattle.std.proofs.Math.Bool.{true, false}
@@ -28,12 +28,12 @@ use Rattle.xcal.specs.ParameterNodes.{parameter_verdict, parameters_verdict}
 use Rattle.xml.specs.NodesAt.{nodes_at}
 use Rattle.read_xml_nodes.specs.NodeFound.{NodeAt}
 use Rattle.read_xml_nodes.specs.laws.NodeFound.{node_none, node_literal, node_referred, element_onward, literal_onward, element_less, literal_less}
-use Rattle.read_xml_nodes.specs.Judging.{judged_as}
-use Rattle.read_xml_nodes.specs.laws.Judging.{is_name, is_frame, is_parameter, after_fine, after_refused}
-use Rattle.read_xml_nodes.specs.declared.Judged.{Judged}
-use Rattle.read_xml_nodes.specs.declared.Judged.TheVariants.{Fine, Refused}
+use Rattle.refusals.specs.Fault.{fault_at, judged_as}
+use Rattle.refusals.specs.declared.Refusal.TheVariants.{Name, Frame, Parameter}
+use Rattle.refusals.specs.declared.Fault.{Fault}
+use Rattle.read_xml_nodes.specs.laws.Judging.{after_ok, after_err}
 use Rattle.read_xml_nodes.specs.declared.Node.{Node}
-use Rattle.read_xml_nodes.specs.declared.NodeKind.TheVariants.{None, Element, Literal, Referred}
+use Rattle.read_xml_nodes.specs.declared.NodeKind.TheVariants.{Absent, Element, Literal, Referred}
 use Rattle.edition.specs.declared.Edition.{Edition}
 use Rattle.read_xml_parameters.specs.Children.{name_of}
 use Rattle.read_xml_parameters.specs.laws.Children.{node_named}
@@ -45,27 +45,27 @@ use Rattle.read_xml_parameters.specs.laws.Sound.{sound_is}
 use Rattle.read_xml_parameters.specs.Told.{against_by, judged_by, verdict_at}
 
 module _ (bad against some : Bool) (at x : ℕ) {a : Bool} (e : a ≡ bad) where
-  pub judged_name : a ≡ true → judged_by bad against some at x ≡ judged_as (Refused 5 at)
+  pub judged_name : {v : Fault} → a ≡ true → v ≡ fault_at Name at → judged_by bad against some at x ≡ judged_as (Err v)
   unfolding judged_by pick
-  judged_name h = rw (← e, h) (sym (is_name at))
+  judged_name h y = rw (← e, h, y)
 
-  pub judged_empty : a ≡ false → at ≡ x → judged_by bad against some at x ≡ judged_as (Refused 6 at)
+  pub judged_empty : {v : Fault} → a ≡ false → at ≡ x → v ≡ fault_at Frame at → judged_by bad against some at x ≡ judged_as (Err v)
   unfolding judged_by pick
-  judged_empty h k = rw (← e, h, eq-eqb at x k) (sym (is_frame at))
+  judged_empty h k y = rw (← e, h, eq-eqb at x k, y)
 
   module _ {b : Bool} (h : a ≡ false) (k : at ≡ x → ⊥) (f : b ≡ against) where
-    pub judged_against : b ≡ true → judged_by bad against some at x ≡ judged_as (Refused 7 at)
+    pub judged_against : {v : Fault} → b ≡ true → v ≡ fault_at Parameter at → judged_by bad against some at x ≡ judged_as (Err v)
     unfolding judged_by pick
-    judged_against l = rw (← e, h, ne_eqb at x k, ← f, l) (sym (is_parameter at))
+    judged_against l y = rw (← e, h, ne_eqb at x k, ← f, l, y)
 
     module _ {c : Bool} (l : b ≡ false) (g : c ≡ some) where
-      pub judged_fine : c ≡ true → judged_by bad against some at x ≡ judged_as Fine
+      pub judged_fine : c ≡ true → judged_by bad against some at x ≡ judged_as (Ok tt)
       unfolding judged_by pick
       judged_fine z = rw (← e, h, ne_eqb at x k, ← f, l, ← g, z)
 
-      pub judged_none : c ≡ false → judged_by bad against some at x ≡ judged_as (Refused 6 x)
+      pub judged_none : {v : Fault} → c ≡ false → v ≡ fault_at Frame x → judged_by bad against some at x ≡ judged_as (Err v)
       unfolding judged_by pick
-      judged_none z = rw (← e, h, ne_eqb at x k, ← f, l, ← g, z) (sym (is_frame x))
+      judged_none z y = rw (← e, h, ne_eqb at x k, ← f, l, ← g, z, y)
 
 module _ (ed : Edition) where
   -- ---- all of them
@@ -78,7 +78,7 @@ module _ (ed : Edition) where
     pub is : (w : List ℕ) → row ≡ row_at (place_of w property_names) → t ≤ 14 → parameters_verdict ed w (type_at t) (nodes_at s from) [] ≡ parameters_verdict ed w (type_at t) (nodes_at s at) seen
 
   -- the contract of `parameters_verdict`
-  abbrev pub Judges : Row → ℕ → List ℕ → ℕ → Judged → Type 0
+  abbrev pub Judges : Row → ℕ → List ℕ → ℕ → Result ⊤ Fault → Type 0
   Judges row t s from j = (w : List ℕ) → row ≡ row_at (place_of w property_names) → t ≤ 14 → judged_as j ≡ parameters_verdict ed w (type_at t) (nodes_at s from) []
 
 module _ (ed : Edition) where
@@ -111,13 +111,13 @@ module _ (ed : Edition) where
   told_start row t s from = record { seen = []; fresh = fresh_start s from; known = λ m k h. refl; is = λ w h k. refl }
 
   module _ {row : Row} {t : ℕ} {s : List ℕ} {from at c : ℕ} {n : Node} (i : Told ed row t s from at c) (a : NodeAt s at n) where
-    pub told_none : n.kind ≡ None → Judges ed row t s from Fine
+    pub told_none : n.kind ≡ Absent → Judges ed row t s from (Ok tt)
     unfolding parameters_verdict
     told_none q = λ w h k. sym (i.is w h k ∙ ap (λ (z : Nodes). (parameters_verdict ed) w (type_at t) z i.seen) (node_none a q))
 
-    pub told_referred : n.kind ≡ Referred → Judges ed row t s from (Refused 6 at)
+    pub told_referred : {v : Fault} → n.kind ≡ Referred → v ≡ fault_at Frame at → Judges ed row t s from (Err v)
     unfolding parameters_verdict
-    told_referred q = λ w h k. is_frame at ∙ sym (i.is w h k ∙ ap (λ (z : Nodes). (parameters_verdict ed) w (type_at t) z i.seen) (node_referred a q))
+    told_referred q y = λ w h k. rw y (sym (i.is w h k ∙ ap (λ (z : Nodes). (parameters_verdict ed) w (type_at t) z i.seen) (node_referred a q)))
 
     module _ {b : Bool} (q : n.kind ≡ Literal) (e : b ≡ is_space n.unit) where
       pub told_space : b ≡ true → Told ed row t s from n.next c
@@ -129,9 +129,9 @@ module _ (ed : Edition) where
         is = λ w h k. i.is w h k ∙ ap (λ (x : Nodes). (parameters_verdict ed) w (type_at t) x i.seen) (node_literal a q) ∙ rw (← e, z);
       }
 
-      pub told_character : b ≡ false → Judges ed row t s from (Refused 6 at)
+      pub told_character : {v : Fault} → b ≡ false → v ≡ fault_at Frame at → Judges ed row t s from (Err v)
       unfolding parameters_verdict pick
-      told_character z = λ w h k. is_frame at ∙ sym (i.is w h k ∙ ap (λ (x : Nodes). (parameters_verdict ed) w (type_at t) x i.seen) (node_literal a q) ∙ rw (← e, z))
+      told_character z y = λ w h k. rw y (sym (i.is w h k ∙ ap (λ (x : Nodes). (parameters_verdict ed) w (type_at t) x i.seen) (node_literal a q) ∙ rw (← e, z)))
 
     module _ (q : n.kind ≡ Element) where
       abbrev name : List ℕ
@@ -155,11 +155,11 @@ module _ (ed : Edition) where
           parameter_verdict ed w (type_at t) i.seen at name n.end (nodes_at s n.inside) ≡ verdict_at ed row t s from at name n.end (nodes_at s n.inside)
       own w h k = verdict_is w row t s from at name n.end (nodes_at s n.inside) i.seen h k here
 
-      module _ {j : Judged} (e : verdict_at ed row t s from at (name_of s n.name n.name_end) n.end (nodes_at s n.inside) ≡ judged_as j) where
-        pub told_refused : {c d : ℕ} → j ≡ Refused c d → Judges ed row t s from (Refused c d)
-        told_refused z = λ w h k. sym (next w h k ∙ after_refused _ (own w h k ∙ e) z)
+      module _ (j : Result ⊤ Fault) (e : verdict_at ed row t s from at (name_of s n.name n.name_end) n.end (nodes_at s n.inside) ≡ judged_as j) where
+        pub told_refused : {v : Fault} → j ≡ Err v → Judges ed row t s from (Err v)
+        told_refused z = λ w h k. sym (next w h k ∙ after_err _ (own w h k ∙ e) z)
 
-        pub told_next : j ≡ Fine → Told ed row t s from n.next (c + 1)
+        pub told_next : {u : ⊤} → j ≡ Ok u → Told ed row t s from n.next (c + 1)
         unfolding is_before is_one_of ◌and◌ ◌or◌
         told_next z = record {
           seen = name ∷ i.seen;
@@ -168,7 +168,7 @@ module _ (ed : Edition) where
               i.known m k (omega (arith, element_onward a q, h))
               ∙ ap (λ (x : Nodes). is_one_of m i.seen or is_before m k x) (node_named a q)
               ∙ rw (lt-ltb at k (omega (arith, element_onward a q, h)), same_either name m) (turned (is_one_of m i.seen) (same m name) (is_before m k (nodes_at s n.next)));
-          is = λ w h k. next w h k ∙ after_fine _ (own w h k ∙ e) z;
+          is = λ w h k. next w h k ∙ after_ok _ (own w h k ∙ e) z;
         }
           where
             turned : (x y z : Bool) → (x or (y or z)) ≡ ((y or x) or z)

@@ -2,13 +2,12 @@
 --     shown_is    it is the text of the value that was read
 --     list_is    they are the text of the values that were read
 --     quoted_.., truth_.., value-put-.., item_.., values_..    for code
-use Rattle.std.specs.Prelude.{◌≡◌, Bool, not, ℕ, ◌*◌, ◌^◌, ◌<◌, length}
+use Rattle.std.specs.Prelude.{◌≡◌, Bool, not, ℕ, ◌*◌, ◌^◌, ◌<◌, length, Option, None, Some, option_map}
 use Rattle.std.proofs.Math.Path.{refl}
 use Rattle.std.proofs.Common.{sym, ◌∙◌, eq-eqb, ne_eqb}
 use Rattle.std.proofs.Math.Bool.{true, false}
 use Rattle.std.proofs.lemmas.Bool.{false≢true}
 use mathlib.Core.List.{List, [], ◌∷◌}
-use Rattle.std.proofs.Math.Option.{Option, none, some, map}
 use Rattle.octets.specs.Ascii.{ascii}
 use Rattle.octets.specs.Pick.{pick, ◌or◌}
 use Rattle.octets.specs.laws.Pick.{or_take, or_skip}
@@ -23,9 +22,6 @@ use Rattle.calendar.specs.Calendar.{ical, xcal, ValueType, BINARY, BOOLEAN, CAL-
 use Rattle.sink.specs.Sink.{Put}
 use Rattle.sink.specs.laws.Sink.{put_none, put_yes, put_no, ◌▷◌}
 use Rattle.numbers.specs.Boolean.{read_boolean, write_boolean}
-use Rattle.numbers.specs.ReadBoolean.{truth_of}
-use Rattle.numbers.specs.declared.boolean.BooleanRead.{BooleanRead}
-use Rattle.numbers.specs.declared.boolean.BooleanRead.TheVariants.{Truth, Bad}
 use Rattle.texts.specs.Uri.{is_uri}
 use Rattle.texts.specs.Quoting.{needs_quotes}
 use Rattle.schema.specs.Types.{type_place, same_type}
@@ -54,22 +50,22 @@ use Rattle.read_xml_parameters.specs.Written.{row_value, truth_shown, plain_show
 
 -- what the schema's parameters take: words, or one of five types, BOOLEAN with no quotes
 abbrev usual : Option (List (List ℕ)) → ValueType → Bool → Bool
-usual (some ws) t z = same_type t TEXT
-usual none BINARY z = false
-usual none BOOLEAN z = not z
-usual none CAL-ADDRESS z = true
-usual none DATE z = false
-usual none DATE-TIME z = false
-usual none DURATION z = false
-usual none FLOAT z = false
-usual none INTEGER z = false
-usual none PERIOD z = false
-usual none RECUR z = false
-usual none TEXT z = true
-usual none TIME z = false
-usual none URI z = true
-usual none UTC-OFFSET z = false
-usual none UNKNOWN z = true
+usual (Some ws) t z = same_type t TEXT
+usual None BINARY z = false
+usual None BOOLEAN z = not z
+usual None CAL-ADDRESS z = true
+usual None DATE z = false
+usual None DATE-TIME z = false
+usual None DURATION z = false
+usual None FLOAT z = false
+usual None INTEGER z = false
+usual None PERIOD z = false
+usual None RECUR z = false
+usual None TEXT z = true
+usual None TIME z = false
+usual None URI z = true
+usual None UTC-OFFSET z = false
+usual None UNKNOWN z = true
 
 abbrev is_usual : ParameterRow → Bool
 is_usual r = usual r.words r.type r.quoted
@@ -121,11 +117,11 @@ module _ (q : ℕ) (l : List ℕ) {a : Bool} (e : a ≡ (parameter_at q).quoted)
       unfolding quoted_at row_at
       quoted_comma m p = or_skip _ _ _ (sym e ∙ h) (or_skip _ _ _ (sym f ∙ k) (or_skip _ _ _ (sym g ∙ m) p))
 
-pub truth_put : {d e : List ℕ} {o n : ℕ} (l : List ℕ) {r : BooleanRead} {b : Bool} → read_boolean xcal l ≡ truth_of r → r ≡ Truth b → Put d e o n (write_boolean ical b) → Put d e o n (truth_shown l)
+pub truth_put : {d e : List ℕ} {o n : ℕ} (l : List ℕ) {r : Option Bool} {b : Bool} → read_boolean xcal l ≡ r → r ≡ Some b → Put d e o n (write_boolean ical b) → Put d e o n (truth_shown l)
 unfolding truth_shown
 truth_put l k h p = rw (k, h) p
 
-pub truth_none : {d : List ℕ} {o : ℕ} (l : List ℕ) {r : BooleanRead} → read_boolean xcal l ≡ truth_of r → r ≡ Bad → length d * 1 < 2 ^ 63 → Put d d o o (truth_shown l)
+pub truth_none : {d : List ℕ} {o : ℕ} (l : List ℕ) {r : Option Bool} → read_boolean xcal l ≡ r → r ≡ None → length d * 1 < 2 ^ 63 → Put d d o o (truth_shown l)
 unfolding truth_shown
 truth_none {d} {o} l k h z = rw (k, h) (put_none d o z)
 
@@ -135,51 +131,51 @@ read q kids e = e ∙ sym (all_read (row_at q) kids)
 module _ (ed : Edition) where
   module _ (l : List ℕ) (v : Value) where
     -- a type whose characters are kept
-    kept : (z t : Bool) (make : List ℕ → Value) → param_chars (make l) ≡ l → map make (pick t (some l) none) ≡ some v → plain_shown ed z l ≡ write_param_value (encoded_value ed (record { quoted = z or needs_quotes (param_chars v); chars = param_chars v }))
+    kept : (z t : Bool) (make : List ℕ → Value) → param_chars (make l) ≡ l → option_map make (pick t (Some l) None) ≡ Some v → plain_shown ed z l ≡ write_param_value (encoded_value ed (record { quoted = z or needs_quotes (param_chars v); chars = param_chars v }))
     unfolding pick
     kept z true make k e = let y : make l ≡ v = cc in rw (← y, k)
     kept z false make k e = none-some e
 
-    truth : (o : Option Bool) → read_boolean xcal l ≡ o → map boolean o ≡ some v → truth_shown l ≡ write_param_value (encoded_value ed (record { quoted = false or needs_quotes (param_chars v); chars = param_chars v }))
+    truth : (o : Option Bool) → read_boolean xcal l ≡ o → option_map boolean o ≡ Some v → truth_shown l ≡ write_param_value (encoded_value ed (record { quoted = false or needs_quotes (param_chars v); chars = param_chars v }))
     unfolding truth_shown write_param_value write_value read_or octets_compute
-    truth none e h = none-some h
-    truth (some true) e h = let y : boolean true ≡ v = cc in rw (e, ← y, true_encoded ed)
-    truth (some false) e h = let y : boolean false ≡ v = cc in rw (e, ← y, false_encoded ed)
+    truth None e h = none-some h
+    truth (Some true) e h = let y : boolean true ≡ v = cc in rw (e, ← y, true_encoded ed)
+    truth (Some false) e h = let y : boolean false ≡ v = cc in rw (e, ← y, false_encoded ed)
 
-    by_type : (o : Option (List (List ℕ))) (t : ValueType) (z : Bool) → usual o t z ≡ true → read_word_in o t l ≡ some v →
+    by_type : (o : Option (List (List ℕ))) (t : ValueType) (z : Bool) → usual o t z ≡ true → read_word_in o t l ≡ Some v →
         pick (same_type t BOOLEAN) (truth_shown l) (plain_shown ed z l) ≡ write_param_value (encoded_value ed (record { quoted = z or needs_quotes (param_chars v); chars = param_chars v }))
     unfolding read_value write_value same_type pick read_or
-    by_type (some ws) t z u h = rw (same_type_true t TEXT u) (kept z (is_one_of l ws) text refl (words (is_one_of l ws) h))
+    by_type (Some ws) t z u h = rw (same_type_true t TEXT u) (kept z (is_one_of l ws) text refl (words (is_one_of l ws) h))
       where
-        words : (b : Bool) → pick b (some (text l)) none ≡ some v → map text (pick b (some l) none) ≡ some v
+        words : (b : Bool) → pick b (Some (text l)) None ≡ Some v → option_map text (pick b (Some l) None) ≡ Some v
         words true e = e
         words false e = e
-    by_type none BINARY z u h = absurd (false≢true u)
-    by_type none BOOLEAN false u h = truth (read_boolean xcal l) refl h
-    by_type none BOOLEAN true u h = absurd (false≢true u)
-    by_type none CAL-ADDRESS z u h = kept z (is_uri l) cal_address refl h
-    by_type none DATE z u h = absurd (false≢true u)
-    by_type none DATE-TIME z u h = absurd (false≢true u)
-    by_type none DURATION z u h = absurd (false≢true u)
-    by_type none FLOAT z u h = absurd (false≢true u)
-    by_type none INTEGER z u h = absurd (false≢true u)
-    by_type none PERIOD z u h = absurd (false≢true u)
-    by_type none RECUR z u h = absurd (false≢true u)
-    by_type none TEXT z u h = kept z true text refl h
-    by_type none TIME z u h = absurd (false≢true u)
-    by_type none URI z u h = kept z (is_uri l) uri refl h
-    by_type none UTC-OFFSET z u h = absurd (false≢true u)
-    by_type none UNKNOWN z u h = kept z true unknown refl h
+    by_type None BINARY z u h = absurd (false≢true u)
+    by_type None BOOLEAN false u h = truth (read_boolean xcal l) refl h
+    by_type None BOOLEAN true u h = absurd (false≢true u)
+    by_type None CAL-ADDRESS z u h = kept z (is_uri l) cal_address refl h
+    by_type None DATE z u h = absurd (false≢true u)
+    by_type None DATE-TIME z u h = absurd (false≢true u)
+    by_type None DURATION z u h = absurd (false≢true u)
+    by_type None FLOAT z u h = absurd (false≢true u)
+    by_type None INTEGER z u h = absurd (false≢true u)
+    by_type None PERIOD z u h = absurd (false≢true u)
+    by_type None RECUR z u h = absurd (false≢true u)
+    by_type None TEXT z u h = kept z true text refl h
+    by_type None TIME z u h = absurd (false≢true u)
+    by_type None URI z u h = kept z (is_uri l) uri refl h
+    by_type None UTC-OFFSET z u h = absurd (false≢true u)
+    by_type None UNKNOWN z u h = kept z true unknown refl h
 
-  pub shown_is : (q : ℕ) (kids : Nodes) (v : Value) → read_leaf (row_at q) kids ≡ some v → value_shown ed (row_at q) (characters_of kids) ≡ write_param_value (encoded_value ed (row_value (row_at q) v))
+  pub shown_is : (q : ℕ) (kids : Nodes) (v : Value) → read_leaf (row_at q) kids ≡ Some v → value_shown ed (row_at q) (characters_of kids) ≡ write_param_value (encoded_value ed (row_value (row_at q) v))
   unfolding read_leaf value_shown pick
   shown_is q kids v h = go (has_element kids) h
     where
-      go : (t : Bool) → pick t none (read_word_in (row_at q).words (row_at q).type (characters_of kids)) ≡ some v → value_shown ed (row_at q) (characters_of kids) ≡ write_param_value (encoded_value ed (row_value (row_at q) v))
+      go : (t : Bool) → pick t None (read_word_in (row_at q).words (row_at q).type (characters_of kids)) ≡ Some v → value_shown ed (row_at q) (characters_of kids) ≡ write_param_value (encoded_value ed (row_value (row_at q) v))
       go true e = none-some e
       go false e = by_type (characters_of kids) v (row_at q).words (row_at q).type (row_at q).quoted (row_usual q) e
 
-  list_is : (q : ℕ) (later : Bool) (kids : Nodes) (vs : List Value) → read_leaves (row_at q) kids ≡ some vs → list_shown ed (row_at q) later kids ≡ commas later (texts ed (row_at q) vs)
+  list_is : (q : ℕ) (later : Bool) (kids : Nodes) (vs : List Value) → read_leaves (row_at q) kids ≡ Some vs → list_shown ed (row_at q) later kids ≡ commas later (texts ed (row_at q) vs)
   unfolding read_leaves list_shown item_shown each_after joined_by pick ◌⊕◌
   list_is q true no_nodes vs h = let z : [] ≡ vs = cc in rw (← z)
   list_is q false no_nodes vs h = let z : [] ≡ vs = cc in rw (← z)
@@ -222,13 +218,13 @@ module _ (ed : Edition) where
     values_put {d} {f} {o} {n} h p = go (read_leaves (row_at q) kids) refl (sym (read q kids e) ∙ h)
       where
         go : (v : Option (List Value)) → read_leaves (row_at q) kids ≡ v → is_read v ≡ true → Put d f o n (joined_by 44 (texts ed (row_at q) (read_or [] v)))
-        go none i k = absurd (false≢true k)
-        go (some vs) i k = rw (← (list_is q false kids vs i)) p
+        go None i k = absurd (false≢true k)
+        go (Some vs) i k = rw (← (list_is q false kids vs i)) p
 
     pub values_unread : {d : List ℕ} {o : ℕ} → a ≡ false → length d * 1 < 2 ^ 63 → Put d d o o (values_shown ed (row_at q) kids)
     unfolding values_shown is_read read_or joined_by
     values_unread {d} {o} h z = go (read_leaves (row_at q) kids) (sym (read q kids e) ∙ h)
       where
         go : (v : Option (List Value)) → is_read v ≡ false → Put d d o o (joined_by 44 (texts ed (row_at q) (read_or [] v)))
-        go none k = put_none d o z
-        go (some vs) k = absurd (false≢true (sym k))
+        go None k = put_none d o z
+        go (Some vs) k = absurd (false≢true (sym k))

@@ -3,11 +3,10 @@
 --     ends_found, ends_missing    by what the piece is there
 --     ends_then          one piece and another after it;   ends_quoted, ends_apostrophe: between quotes
 --     from_on            what stands at a later place
-use Rattle.std.specs.Prelude.{◌≡◌, Bool, List, [], ◌∷◌, ℕ, ◌+◌, ◌-◌, ◌≤◌, ◌<◌}
+use Rattle.std.specs.Prelude.{◌≡◌, Bool, List, [], ◌∷◌, ℕ, ◌+◌, ◌-◌, ◌≤◌, ◌<◌, None, Some}
 use Rattle.std.proofs.Math.Path.{refl}
 use Rattle.std.proofs.Common.{sym, ap, ◌∙◌, arith, drop-drop}
 use Rattle.std.proofs.Math.Bool.{true, false}
-use Rattle.std.proofs.Math.Option.{none, some}
 use Rattle.std.proofs.Math.Dec.{ltb}
 use Rattle.std.proofs.Math.ListN.{length}
 use borrow.Author.Tests.{ltb-true, ltb-false}
@@ -26,32 +25,32 @@ module _ (p : Piece) (s : List ℕ) (at : ℕ) where
   pub ends_stuck : length s < at → Ends p s at at
   ends_stuck h = record { onward = omega arith; near = omega arith; stands = λ k. absurd (omega arith); misses = λ k l. absurd (omega arith) }
 
-  pub ends_found : (n r : ℕ) → p (from at s) ≡ some n → r ≡ at + n → at + n ≤ length s → Ends p s at r
+  pub ends_found : (n r : ℕ) → p (from at s) ≡ Some n → r ≡ at + n → at + n ≤ length s → Ends p s at r
   ends_found n r e f h = record {
     onward = omega arith;
     near = omega arith;
-    stands = λ k. let q : n ≡ r - at = omega arith in e ∙ ap some q;
+    stands = λ k. let q : n ≡ r - at = omega arith in e ∙ ap Some q;
     misses = λ k l. absurd (omega arith);
   }
 
-  pub ends_missing : at ≤ length s → p (from at s) ≡ none → Ends p s at (length s + 1)
+  pub ends_missing : at ≤ length s → p (from at s) ≡ None → Ends p s at (length s + 1)
   ends_missing h e = record { onward = omega arith; near = omega arith; stands = λ k. absurd (omega arith); misses = λ k l. e }
 
 -- ---- one piece and another after it
 
 module _ {a b : Piece} {s : List ℕ} {at m r : ℕ} (x : Ends a s at m) (y : Ends b s m r) where
-  then_stands : r ≤ length s → (a then b) (from at s) ≡ some (r - at)
+  then_stands : r ≤ length s → (a then b) (from at s) ≡ Some (r - at)
   unfolding ◌then◌ and_then both
   then_stands h =
       let k : m ≤ length s = omega (arith, y.onward) in
       let q : m - at + (r - m) ≡ r - at = omega (arith, x.onward, y.onward) in
-      rw (x.stands k, from_on s at m x.onward, y.stands h) (ap some q)
+      rw (x.stands k, from_on s at m x.onward, y.stands h) (ap Some q)
 
-  then_misses : at ≤ length s → length s < r → (a then b) (from at s) ≡ none
+  then_misses : at ≤ length s → length s < r → (a then b) (from at s) ≡ None
   unfolding ◌then◌ and_then both
   then_misses h l = go (ltb (length s) m) refl
     where
-      go : (t : Bool) → ltb (length s) m ≡ t → and_then (a (from at s)) (λ n. both n (b (from n (from at s)))) ≡ none
+      go : (t : Bool) → ltb (length s) m ≡ t → and_then (a (from at s)) (λ n. both n (b (from n (from at s)))) ≡ None
       go true e = rw (x.misses h (ltb-true (length s) m e))
       go false e = let k = ltb-false (length s) m e in rw (x.stands k, from_on s at m x.onward, y.misses k l)
 
@@ -65,7 +64,7 @@ pub exact_stands : (w : List ℕ) {s : List ℕ} {at r : ℕ} → Ends (exactly 
 unfolding exactly pick
 exact_stands w {s} {at} {r} x h = go (starts w (from at s)) (x.stands h)
   where
-    go : (t : Bool) → pick t (some (length w)) none ≡ some (r - at) → (t ≡ true) × (r ≡ at + length w)
+    go : (t : Bool) → pick t (Some (length w)) None ≡ Some (r - at) → (t ≡ true) × (r ≡ at + length w)
     go true e = let q : length w ≡ r - at = cc in (refl, omega (arith, x.onward))
     go false e = none-some e
 
@@ -73,7 +72,7 @@ pub exact_misses : (w : List ℕ) {s : List ℕ} {at r : ℕ} → Ends (exactly 
 unfolding exactly pick
 exact_misses w {s} {at} {r} x h l = go (starts w (from at s)) (x.misses h l)
   where
-    go : (t : Bool) → pick t (some (length w)) none ≡ none → t ≡ false
+    go : (t : Bool) → pick t (Some (length w)) None ≡ None → t ≡ false
     go true e = none-some (sym e)
     go false e = refl
 

@@ -5,10 +5,9 @@
 --     root_start, root_empty, root_fault, root_none, root_other    the marks of a document, by its root's tag
 use Rattle.std.proofs.Math.Path.{◌≡◌, refl, sym, ap}
 use Rattle.std.proofs.Common.{subst, ◌∙◌, ltb-true, ltb-false}
-use Rattle.std.specs.Prelude.{Bool, false, ℕ, ◌+◌, ◌≤◌, ◌<◌, ltb, length, get_or, drop}
+use Rattle.std.specs.Prelude.{Bool, false, ℕ, ◌+◌, ◌≤◌, ◌<◌, ltb, length, get_or, drop, Option, None, Some}
 use Rattle.std.proofs.Math.Bool.{true, false≢true}
 use mathlib.Core.List.{List, [], ◌∷◌}
-use Rattle.std.proofs.Math.Option.{Option, none, some}
 use native.Mathlib.Omega.{arith}
 use Rattle.octets.specs.laws.Pick.{pick_either}
 use Rattle.octets.specs.laws.Scan.{drop_next}
@@ -85,8 +84,8 @@ root_kinds [] = refl
 root_kinds (b ∷ r) = pick_either (λ (t : Token). is_root_kind t ≡ true) _ _ _ (started (root_piece r)) refl
   where
     started : (o : Option ℕ) → is_root_kind (start_by o r) ≡ true
-    started none = refl
-    started (some n) = pick_either (λ (t : Token). is_root_kind t ≡ true) _ _ _ refl (pick_either (λ (t : Token). is_root_kind t ≡ true) _ _ _ refl refl)
+    started None = refl
+    started (Some n) = pick_either (λ (t : Token). is_root_kind t ≡ true) _ _ _ refl (pick_either (λ (t : Token). is_root_kind t ≡ true) _ _ _ refl refl)
 
 module _ {s : List ℕ} {t : TokenAt} (x : RootAt s t) where
   root_found : (k : TokenKind) → t.kind ≡ k → root_in (from (prolog s) s) ≡ token_by k s (prolog s) t

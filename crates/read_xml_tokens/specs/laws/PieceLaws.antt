@@ -2,11 +2,10 @@
 --     Lowering     given bytes in any case, compared;   its rules `lowering`
 --     Blank        white space, passed over;   its rules `passing`
 --     exact_yes, exact_no, any_case_yes, any_case_no, space_some, space_none, name_some, name_none    the piece that was found
-use Rattle.std.specs.Prelude.{◌≡◌, Bool, List, [], ◌∷◌, eqb, get_or, take, drop}
+use Rattle.std.specs.Prelude.{◌≡◌, Bool, List, [], ◌∷◌, eqb, get_or, take, drop, Some}
 use Rattle.std.proofs.Math.Path.{refl, sym, ap}
 use Rattle.std.proofs.Common.{◌∙◌, drop_of_length-le, rules}
 use Rattle.std.proofs.Math.Bool.{true, false}
-use Rattle.std.proofs.Math.Option.{some}
 use Prim.Native.Nat.{ℕ, zero, suc, ◌+◌, ◌-◌, max, ◌≤◌, ◌<◌}
 use native.Mathlib.Omega.{arith}
 use Rattle.std.proofs.Math.Dec.{ltb}
@@ -124,7 +123,7 @@ module _ (s : List ℕ) (at : ℕ) where
   unfolding any_space
   blank_ends j t z =
       let q : span_len is_space (from at s) ≡ j - at = omega (arith, t.left, t.onward) in
-      record { onward = t.onward; near = omega (arith, t.near); stands = λ k. ap some q; misses = λ k l. absurd (omega (arith, t.near)) }
+      record { onward = t.onward; near = omega (arith, t.near); stands = λ k. ap Some q; misses = λ k l. absurd (omega (arith, t.near)) }
 
   pub blank_stop : (j b : ℕ) → Blank s at j → j < length s → (b ≡ get_or s j 0) × (b < 256) → is_space b ≡ false → Ends any_space s at j
   unfolding span_len pick

@@ -4,14 +4,14 @@
 --     number_of         the number of a name's row
 --     of_geo, of_status, of_first    the type of a property's value
 use Prim.{tt}
-use Rattle.std.specs.Prelude.{◌≡◌, Bool, ℕ, zero, suc, ◌≤◌, ◌<◌, length, get_or, take}
+use Rattle.std.specs.Prelude.{◌≡◌, Bool, ℕ, zero, suc, ◌≤◌, ◌<◌, length, get_or, take, Option, None, Some, option_map}
 use Rattle.std.proofs.Math.Path.{refl, sym, ap, subst}
 use Rattle.std.proofs.Common.{◌∙◌, arith, take_all, length-take-le, rules}
 use Rattle.std.proofs.Math.Bool.{true, false}
 use Rattle.std.proofs.lemmas.Bool.{false≢true}
 use mathlib.Core.List.{List, map}
-use Rattle.std.proofs.Math.Option.{Option, none, some}
 use borrow.Author.Tests.{eq-eqb, ne_eqb}
+use Rattle.std.proofs.Math.Logic.{◌⊎◌, inl, inr}
 use Rattle.octets.specs.Ascii.{ascii}
 use Rattle.octets.specs.Pick.{pick, ◌or◌}
 use Rattle.octets.specs.Class.{upper, lower}
@@ -42,10 +42,8 @@ use Rattle.read_xml_nodes.specs.laws.HeadFound.{head_none, head_element, head_wh
 use Rattle.read_xml_nodes.specs.laws.Walks.{Passing, passing_start}
 use Rattle.read_xml_nodes.specs.declared.Ended.{Ended}
 use Rattle.read_xml_nodes.specs.declared.Head.{Head}
-use Rattle.read_xml_nodes.specs.declared.NodeKind.TheVariants.{None, Element, Literal, Referred}
+use Rattle.read_xml_nodes.specs.declared.NodeKind.TheVariants.{Absent, Element, Literal, Referred}
 use Rattle.read_xml_value.specs.ElementTypes.{TypeNamed}
-use Rattle.read_xml_value.specs.declared.Named.{Named}
-use Rattle.read_xml_value.specs.declared.Named.TheVariants.{«Type» as Typed, Bad}
 
 -- ---- the type of a name
 
@@ -54,25 +52,25 @@ unfolding octets_compute
 unknown_known = refl
 
 -- a name that is none of these
-no_type : (n : List ℕ) → length type_words ≤ place_of n type_words → element_type n ≡ none
+no_type : (n : List ℕ) → length type_words ≤ place_of n type_words → element_type n ≡ None
 unfolding element_type pick
 no_type n h = rw (unknown_word n type_words (ascii "unknown") h unknown_known) (go (same n (lower n)) refl)
   where
-    found : (o : Option ValueType) → type_named (upper n) ≡ o → n ≡ lower n → o ≡ none
-    found none e q = refl
-    found (some t) e q =
+    found : (o : Option ValueType) → type_named (upper n) ≡ o → n ≡ lower n → o ≡ None
+    found None e q = refl
+    found (Some t) e q =
         let back : lower (upper n) ≡ n = lower-upper n (rw q (no_capital n)) in
         let z : n ≡ lower (type_name t) = sym back ∙ ap lower (sym (type_named_is (upper n) t e)) in
         absurd (false≢true (sym (unknown_word n type_words n h (ap (λ (x : List ℕ). is_one_of x type_words) z ∙ word_known t)) ∙ same_self n))
 
-    go : (b : Bool) → same n (lower n) ≡ b → pick b (type_named (upper n)) none ≡ none
+    go : (b : Bool) → same n (lower n) ≡ b → pick b (type_named (upper n)) None ≡ None
     go true e = found (type_named (upper n)) refl (same_true n (lower n) e)
     go false e = refl
 
 abbrev type_table : List (Option ValueType)
 type_table = map element_type type_words
 
-table_at : (t : ℕ) → t < 15 → get_or type_table t none ≡ some (type_at t)
+table_at : (t : ℕ) → t < 15 → get_or type_table t None ≡ Some (type_at t)
 unfolding octets_compute element_type type_named
 table_at zero h = refl
 table_at (suc zero) h = refl
@@ -91,16 +89,16 @@ table_at (suc (suc (suc (suc (suc (suc (suc (suc (suc (suc (suc (suc (suc zero))
 table_at (suc (suc (suc (suc (suc (suc (suc (suc (suc (suc (suc (suc (suc (suc zero)))))))))))))) h = refl
 table_at (suc (suc (suc (suc (suc (suc (suc (suc (suc (suc (suc (suc (suc (suc (suc t))))))))))))))) h = absurd (omega arith)
 
-by_word : (n : List ℕ) → element_type n ≡ get_or type_table (place_of n type_words) none
-by_word n = by_place n element_type none type_words (no_type n)
+by_word : (n : List ℕ) → element_type n ≡ get_or type_table (place_of n type_words) None
+by_word n = by_place n element_type None type_words (no_type n)
 
 -- ---- for code
 
 module _ (n : List ℕ) {t : ℕ} (e : t ≡ place_of n type_words) where
-  pub type_there : t < 15 → TypeNamed n (Typed t)
-  type_there h = record { is = by_word n ∙ ap (λ (k : ℕ). get_or type_table k none) (sym e) ∙ table_at t h; small = omega arith }
+  pub type_there : t < 15 → TypeNamed n (Some t)
+  type_there h = record { is = by_word n ∙ ap (λ (k : ℕ). get_or type_table k None) (sym e) ∙ table_at t h; small = omega arith }
 
-  pub type_nowhere : 15 ≤ t → TypeNamed n Bad
+  pub type_nowhere : 15 ≤ t → TypeNamed n None
   type_nowhere h = record { is = no_type n (rw (← e) h); small = tt }
 
 -- a name that is cut behind the end of the bytes
@@ -109,38 +107,35 @@ cut_whole ws s a e h q = q ∙ ap (λ (x : List ℕ). place_of (rest 0 x a) ws) 
 
 pub ruleset naming = (type_there, type_nowhere, cut_whole, length-take-le, rules)
 
-pub named_small : {n : List ℕ} {m : Named} → TypeNamed n m → {u : ℕ} → m ≡ Typed u → u ≤ 14
+pub named_small : {n : List ℕ} {m : Option ℕ} → TypeNamed n m → {u : ℕ} → m ≡ Some u → u ≤ 14
 named_small {n} d z = (subst (TypeNamed n) z d).small
 
 -- ---- the first child that is named as a type
 
 module _ (t : ValueType) {s : List ℕ} {from at : ℕ} {r : Head} (p : Passing (first_type t) s from at) (n : HeadAt s at r) where
-  pub first_none : r.kind ≡ None → t ≡ first_type t (nodes_at s from)
+  pub first_none : r.kind ≡ Absent → t ≡ first_type t (nodes_at s from)
   unfolding first_type
   first_none q = sym (p.is ∙ ap (first_type t) (head_none n q))
 
-  pub first_literal : r.kind ≡ Literal → Passing (first_type t) s from r.next
+  pub first_character : (r.kind ≡ Literal) ⊎ (r.kind ≡ Referred) → Passing (first_type t) s from r.next
   unfolding first_type
-  first_literal q = record { is = p.is ∙ ap (first_type t) (head_literal n q) }
+  first_character (inl q) = record { is = p.is ∙ ap (first_type t) (head_literal n q) }
+  first_character (inr q) = record { is = p.is ∙ ap (first_type t) (head_referred n q) }
 
-  pub first_referred : r.kind ≡ Referred → Passing (first_type t) s from r.next
-  unfolding first_type
-  first_referred q = record { is = p.is ∙ ap (first_type t) (head_referred n q) }
-
-  module _ (q : r.kind ≡ Element) {m : Named} (d : TypeNamed (rest 0 (take r.name_end s) r.name) m) where
-    pub first_here : {u : ℕ} → m ≡ Typed u → type_at u ≡ first_type t (nodes_at s from)
+  module _ (q : r.kind ≡ Element) {m : Option ℕ} (d : TypeNamed (rest 0 (take r.name_end s) r.name) m) where
+    pub first_here : {u : ℕ} → m ≡ Some u → type_at u ≡ first_type t (nodes_at s from)
     unfolding first_type read_or
     first_here {u} z =
-        let f : TypeNamed (rest 0 (take r.name_end s) r.name) (Typed u) = subst (TypeNamed _) z d in
+        let f : TypeNamed (rest 0 (take r.name_end s) r.name) (Some u) = subst (TypeNamed _) z d in
         sym (p.is ∙ ap (first_type t) (head_element n q) ∙ rw f.is)
 
-    pub first_other : {e : Ended} → NodeEnded s at r.opens r.next e → m ≡ Bad → Passing (first_type t) s from e.next
+    pub first_other : {e : Ended} → NodeEnded s at r.opens r.next e → m ≡ None → Passing (first_type t) s from e.next
     unfolding first_type read_or
     first_other y z =
-        let f : TypeNamed (rest 0 (take r.name_end s) r.name) Bad = subst (TypeNamed _) z d in
+        let f : TypeNamed (rest 0 (take r.name_end s) r.name) None = subst (TypeNamed _) z d in
         record { is = p.is ∙ ap (first_type t) (head_whole n q y) ∙ rw f.is }
 
-pub ruleset firsts = (passing_start, first_none, first_literal, first_referred, first_here, first_other, named_small, head_less, rules)
+pub ruleset firsts = (passing_start, first_none, first_character, first_here, first_other, named_small, head_less, rules)
 
 -- ---- the type of a property's value
 

@@ -1,13 +1,14 @@
 -- Laws of what specs/PartContents.antt defines.
 --     inside_is                           the verdict on a child's content, by its name and by its number
 --     flags_start, flags_more             the slots that must be filled: the first, and of PERIOD the second
---     parting                             the rules of the code
-use Rattle.std.specs.Prelude.{◌≡◌, refl, Bool, true, false, List, [], ◌∷◌, map, ℕ, ◌<◌, eqb, get_or}
+--     filled_is                           they are filled
+--     parting, ending                     the rules of the code
+use Rattle.std.specs.Prelude.{◌≡◌, refl, Bool, true, false, not, List, [], ◌∷◌, map, ℕ, ◌<◌, eqb, get_or, Ok, Err}
 use Rattle.std.proofs.Common.{sym, ap, ◌∙◌, rules}
 use Rattle.std.proofs.Math.ListN.{get_or-map}
 use borrow.Author.Tests.{eq-eqb, ne_eqb}
 use Rattle.octets.specs.Ascii.{ascii}
-use Rattle.octets.specs.Pick.{pick, ◌or◌}
+use Rattle.octets.specs.Pick.{pick, ◌and◌, ◌or◌}
 use Rattle.octets.specs.Class.{upper}
 use Rattle.octets.specs.Words.{same, is_one_of}
 use Rattle.octets.specs.Reading.{is_read}
@@ -30,9 +31,9 @@ use Rattle.read_xml_value.specs.Sequencing.{marked, is_short}
 use Rattle.read_xml_value.specs.laws.Sequencing.{fillings, filled}
 use Rattle.read_xml_value.specs.Parts.{recur_names, period_names, names_of, slots_of, count_of}
 use Rattle.read_xml_value.specs.PartContents.{inside_of, inside_at, flags_of}
-use Rattle.read_xml_nodes.specs.Judging.{judged_as}
-use Rattle.read_xml_nodes.specs.laws.Judging.{is_frame}
-use Rattle.read_xml_nodes.specs.declared.Judged.TheVariants.{Fine, Refused}
+use Rattle.refusals.specs.Fault.{fault_at, judged_as}
+use Rattle.refusals.specs.declared.Refusal.TheVariants.{Frame}
+use Rattle.refusals.specs.declared.Fault.{Fault}
 
 -- ---- what stands in a child
 
@@ -108,22 +109,23 @@ flags_more false n f g = rw (start_place n, end_place n, duration_place n) (go (
     go false false true = refl
     go false false false = refl
 
-module _ (e : ℕ) {rule first : Bool} (second : Bool) where
-  pub end_rule : first ≡ true → rule ≡ true → judged_as Fine ≡ pick (is_short (flags_of rule first second)) (refuse FRAME e) fine
-  unfolding octets_compute is_short
-  end_rule h k = rw (h, k)
-
-  pub end_both : first ≡ true → rule ≡ false → second ≡ true → judged_as Fine ≡ pick (is_short (flags_of rule first second)) (refuse FRAME e) fine
-  unfolding octets_compute is_short
-  end_both h k l = rw (h, k, l)
-
-  pub end_second : first ≡ true → rule ≡ false → second ≡ false → judged_as (Refused 6 e) ≡ pick (is_short (flags_of rule first second)) (refuse FRAME e) fine
-  unfolding octets_compute is_short
-  end_second h k l = rw (h, k, l) (is_frame e)
-
-pub end_first : (e : ℕ) (rule : Bool) {first : Bool} (second : Bool) → first ≡ false → judged_as (Refused 6 e) ≡ pick (is_short (flags_of rule first second)) (refuse FRAME e) fine
+pub filled_is : (rule first second : Bool) {b : Bool} → b ≡ (first and (rule or second)) → is_short (flags_of rule first second) ≡ not b
 unfolding octets_compute is_short
-end_first e true second h = rw h (is_frame e)
-end_first e false second h = rw h (is_frame e)
+filled_is true true second h = rw h
+filled_is true false second h = rw h
+filled_is false true true h = rw h
+filled_is false true false h = rw h
+filled_is false false second h = rw h
 
-pub ruleset parting = (part_rule, part_duration, part_moment, end_rule, end_both, end_second, end_first, rules)
+module _ (e : ℕ) {t b : Bool} (h : t ≡ not b) where
+  pub end_fine : b ≡ true → judged_as (Ok tt) ≡ pick t (refuse FRAME e) fine
+  unfolding pick
+  end_fine k = rw (h, k)
+
+  pub end_short : {f : Fault} → b ≡ false → f ≡ fault_at Frame e → judged_as (Err f) ≡ pick t (refuse FRAME e) fine
+  unfolding pick
+  end_short k q = rw (h, k, q)
+
+pub ruleset parting = (part_rule, part_duration, part_moment, rules)
+
+pub ruleset ending = (end_fine, end_short, rules)

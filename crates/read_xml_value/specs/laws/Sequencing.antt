@@ -3,9 +3,8 @@
 --     sequence-walked    it is the same
 --     walked_none, walked_space, walked_text, walked-referred, walked_element, walked_outside, walked_child     a walk, by the node at hand
 --     slot_place              the slot of a name, by the name's place in a list of all names
-use Rattle.std.specs.Prelude.{◌≡◌, Bool, true, false, not, List, [], ◌∷◌, map, ℕ, suc, ◌≤◌, length, get_or, drop}
+use Rattle.std.specs.Prelude.{◌≡◌, Bool, true, false, not, List, [], ◌∷◌, map, ℕ, suc, ◌≤◌, length, get_or, drop, Option, None, Some}
 use Rattle.std.proofs.Math.Path.{refl}
-use Rattle.std.proofs.Math.Option.{Option, none, some}
 use Rattle.octets.specs.Pick.{pick, ◌and◌, ◌or◌}
 use Rattle.octets.specs.Class.{is_space}
 use Rattle.octets.specs.Words.{same, is_one_of}
@@ -77,8 +76,8 @@ module _ (slots : List Slot) (inside : ℕ → List ℕ → ℕ → Nodes → Ve
       go : (o : Option ℕ) → ((k : ℕ) → sequence slots inside more k (n ∷ seen) e ≡ walked slots inside more k (fillings slots (n ∷ seen)) e) →
           admitted o p n (inside p n x kids) (λ k. sequence slots inside more k (n ∷ seen) e) ≡
           admitted o p n (inside p n x kids) (λ k. walked slots inside more k (marked slots n (fillings slots seen)) e)
-      go none ih = refl
-      go (some k) ih = rw (ih k, fillings_more slots n seen)
+      go None ih = refl
+      go (Some k) ih = rw (ih k, fillings_more slots n seen)
 
   module _ {kids : Nodes} (next : ℕ) (fs : List Bool) (e : ℕ) where
     pub walked_none : kids ≡ no_nodes → walked slots inside kids next fs e ≡ pick (is_short fs) (refuse FRAME e) fine
@@ -104,18 +103,18 @@ module _ (slots : List Slot) (inside : ℕ → List ℕ → ℕ → Nodes → Ve
       walked_element = rw h
 
       -- a child that has no place here, and one that has
-      pub walked_outside : after_slot (slot_of n slots 0) next ≡ none → walked slots inside kids next fs e ≡ unexpected p n
+      pub walked_outside : after_slot (slot_of n slots 0) next ≡ None → walked slots inside kids next fs e ≡ unexpected p n
       unfolding walked
       walked_outside t = rw (h, t)
 
-      module _ {k : ℕ} (t : after_slot (slot_of n slots 0) next ≡ some k) where
+      module _ {k : ℕ} (t : after_slot (slot_of n slots 0) next ≡ Some k) where
         pub walked_child : walked slots inside kids next fs e ≡ (inside p n x own otherwise walked slots inside more k (marked slots n fs) e)
         unfolding walked
         walked_child = rw (h, t)
 
 -- ---- the slot of a name
 
-unknown_slot : (n : List ℕ) (ws : List (List ℕ)) → length ws ≤ place_of n ws → (slots : List Slot) (k : ℕ) → every (λ s. every (λ x. is_one_of x ws) s.names) slots ≡ true → slot_of n slots k ≡ none
+unknown_slot : (n : List ℕ) (ws : List (List ℕ)) → length ws ≤ place_of n ws → (slots : List Slot) (k : ℕ) → every (λ s. every (λ x. is_one_of x ws) s.names) slots ≡ true → slot_of n slots k ≡ None
 unfolding pick
 unknown_slot n ws h [] k a = refl
 unknown_slot n ws h (s ∷ slots) k a =
@@ -124,5 +123,5 @@ unknown_slot n ws h (s ∷ slots) k a =
 
 -- all names of the slots are in the list
 pub slot_place : (n : List ℕ) (ws : List (List ℕ)) (slots : List Slot) → every (λ s. every (λ x. is_one_of x ws) s.names) slots ≡ true →
-    slot_of n slots 0 ≡ get_or (map (λ w. slot_of w slots 0) ws) (place_of n ws) none
-slot_place n ws slots a = by_place n (λ w. slot_of w slots 0) none ws (λ h. unknown_slot n ws h slots 0 a)
+    slot_of n slots 0 ≡ get_or (map (λ w. slot_of w slots 0) ws) (place_of n ws) None
+slot_place n ws slots a = by_place n (λ w. slot_of w slots 0) None ws (λ h. unknown_slot n ws h slots 0 a)

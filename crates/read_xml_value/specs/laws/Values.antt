@@ -1,10 +1,9 @@
 -- Laws of what specs/Values.antt defines.
 --     typing, valuing     the rules of the code
-use Rattle.std.specs.Prelude.{◌≡◌, refl, Bool, List, ℕ, ◌≤◌, eqb}
+use Rattle.std.specs.Prelude.{◌≡◌, refl, Bool, List, ℕ, ◌≤◌, eqb, Option, None, Some, Err}
 use Rattle.std.proofs.Common.{sym, ap, subst, ◌∙◌, rules}
 use Rattle.std.proofs.Math.Bool.{true, false}
 use Rattle.std.proofs.lemmas.Bool.{false≢true}
-use Rattle.std.proofs.Math.Option.{Option, none, some}
 use borrow.Author.Tests.{eq-eqb, ne_eqb, eqb-true}
 use Rattle.octets.specs.Pick.{pick, ◌and◌}
 use Rattle.octets.specs.laws.Pick.{branching_joined}
@@ -29,16 +28,14 @@ use Rattle.xml.specs.Nodes.{Nodes, characters_of}
 use Rattle.xcal.specs.Layout.{leaf}
 use Rattle.xcal.specs.ValueNodes.{read_word_of, typed_verdict, as_typed, value_verdict, element_type}
 use Rattle.read_xml_value.specs.Leaves.{leaf_by}
-use Rattle.read_xml_nodes.specs.Judging.{judged_as}
-use Rattle.read_xml_nodes.specs.laws.Judging.{is_value}
+use Rattle.refusals.specs.Fault.{fault_at, judged_as}
+use Rattle.refusals.specs.declared.Refusal.TheVariants.{Value}
+use Rattle.refusals.specs.declared.Fault.{Fault}
 use Rattle.read_xml_value.specs.ElementTypes.{TypeNamed}
 use Rattle.read_xml_value.specs.laws.ElementTypes.{number_of}
 use Rattle.read_xml_value.specs.Values.{typed_at}
 use Rattle.schema.specs.declared.Context.{Context}
 use Rattle.schema.specs.Property as property
-use Rattle.read_xml_value.specs.declared.Named.{Named}
-use Rattle.read_xml_value.specs.declared.Named.TheVariants.{«Type» as Typed, Bad}
-use Rattle.read_xml_nodes.specs.declared.Judged.TheVariants.{Refused}
 
 -- ---- of names
 
@@ -74,7 +71,7 @@ either_type true u t f v = go (eqb u t) refl
     go true h = ap f (eqb-true u t h)
     go false h = refl
 
-typed_as : (c w : List ℕ) (place e : ℕ) (kids : Nodes) (u t : ℕ) → u ≤ 14 → t ≤ 14 → as_typed (some (type_at u)) c w (type_at t) place e kids ≡
+typed_as : (c w : List ℕ) (place e : ℕ) (kids : Nodes) (u t : ℕ) → u ≤ 14 → t ≤ 14 → as_typed (Some (type_at u)) c w (type_at t) place e kids ≡
     pick (permits_type (row_at (place_of w property_names)) u and eqb u t) (typed_at (context_of c w t) place e kids) (refuse VALUE place)
 unfolding same_type
 typed_as c w place e kids u t h l =
@@ -89,16 +86,16 @@ module _ (o : Option (List (List ℕ))) (t : ValueType) (place : ℕ) (kids : No
   typed_word h q = go o (sym e ∙ h) q
     where
       go : (o : Option (List (List ℕ))) → is_read o ≡ true → v ≡ leaf (λ l. is_word_of o l) place kids → v ≡ leaf (read_word_of o t) place kids
-      go none k q = absurd (false≢true k)
-      go (some ws) k q = q
+      go None k q = absurd (false≢true k)
+      go (Some ws) k q = q
 
   pub typed_other : a ≡ false → v ≡ leaf (λ l. is_read (read_value xcal t l)) place kids → v ≡ leaf (read_word_of o t) place kids
   unfolding is_read
   typed_other h q = go o (sym e ∙ h)
     where
       go : (o : Option (List (List ℕ))) → is_read o ≡ false → v ≡ leaf (read_word_of o t) place kids
-      go none k = q
-      go (some ws) k = absurd (false≢true (sym k))
+      go None k = q
+      go (Some ws) k = absurd (false≢true (sym k))
 
 module _ (x : Context) (place : ℕ) (n : List ℕ) (e : ℕ) (kids : Nodes) where
   pub value_geo : {v : Verdict} → x.row.number ≡ property.GEO → v ≡ leaf (λ l. is_read (read_value xcal FLOAT l)) place kids →
@@ -111,20 +108,25 @@ module _ (x : Context) (place : ℕ) (n : List ℕ) (e : ℕ) (kids : Nodes) whe
         (c w : List ℕ) → x.component ≡ place_of c component_names → x.row ≡ row_at (place_of w property_names) → x.value_type ≤ 14 → v ≡ value_verdict c w (type_at x.value_type) place n e kids
     value_status h q c w a y l = q ∙ sym (status_as c w place n e kids (λ z. g (number_of w y ∙ z)) (type_at x.value_type) (sym (number_of w y) ∙ h))
 
-    module _ (h : x.row.number ≡ property.REQUEST-STATUS → ⊥) {m : Named} (d : TypeNamed n m) where
-      pub value_typed : {v : Verdict} {u : ℕ} → m ≡ Typed u → v ≡ pick (permits_type x.row u and eqb u x.value_type) (typed_at x place e kids) (refuse VALUE place) →
+    module _ (h : x.row.number ≡ property.REQUEST-STATUS → ⊥) {m : Option ℕ} (d : TypeNamed n m) where
+      pub value_typed : {v : Verdict} {u : ℕ} → m ≡ Some u → v ≡ pick (permits_type x.row u and eqb u x.value_type) (typed_at x place e kids) (refuse VALUE place) →
           (c w : List ℕ) → x.component ≡ place_of c component_names → x.row ≡ row_at (place_of w property_names) → x.value_type ≤ 14 → v ≡ value_verdict c w (type_at x.value_type) place n e kids
       value_typed {v} {u} z q c w a y l =
-          let f : TypeNamed n (Typed u) = subst (TypeNamed n) z d in
+          let f : TypeNamed n (Some u) = subst (TypeNamed n) z d in
           q ∙ rw (a, y) (sym (other_as c w place n e kids (λ i. g (number_of w y ∙ i)) (type_at x.value_type) (λ i. h (number_of w y ∙ i)) ∙ rw f.is (typed_as c w place e kids u x.value_type f.small l)))
 
-      pub value_bad : m ≡ Bad → (c w : List ℕ) → x.component ≡ place_of c component_names → x.row ≡ row_at (place_of w property_names) → x.value_type ≤ 14 → judged_as (Refused 8 place) ≡ value_verdict c w (type_at x.value_type) place n e kids
-      value_bad z c w a y l =
-          let f : TypeNamed n Bad = subst (TypeNamed n) z d in
-          sym (other_as c w place n e kids (λ i. g (number_of w y ∙ i)) (type_at x.value_type) (λ i. h (number_of w y ∙ i)) ∙ rw f.is (sym (is_value place)))
+      pub value_bad : {v : Fault} → m ≡ None → v ≡ fault_at Value place →
+          (c w : List ℕ) → x.component ≡ place_of c component_names → x.row ≡ row_at (place_of w property_names) → x.value_type ≤ 14 → judged_as (Err v) ≡ value_verdict c w (type_at x.value_type) place n e kids
+      value_bad z q c w a y l =
+          let f : TypeNamed n None = subst (TypeNamed n) z d in
+          rw q (sym (other_as c w place n e kids (λ i. g (number_of w y ∙ i)) (type_at x.value_type) (λ i. h (number_of w y ∙ i)) ∙ rw f.is))
+
+-- a type that is not permitted, or is another
+pub type_refused : (p : ℕ) {v : Fault} → v ≡ fault_at Value p → judged_as (Err v) ≡ refuse VALUE p
+type_refused p q = rw q
 
 pub ruleset typing = (typed_word, typed_other, rules)
 
-pub ruleset verdicts = (is_value, branching_joined)
+pub ruleset verdicts = (type_refused, branching_joined)
 
 pub ruleset valuing = (value_geo, value_status, value_typed, value_bad, rules)

@@ -2,11 +2,14 @@
 --     form_read    it is that
 --     item_at            an item of the part at a place in the schema's order;   item_beyond: of no part
 --     item_good, item_bad     the answer of `read_item`;   item_yes, item_no: what it says
-use Rattle.std.specs.Prelude.{◌≡◌, refl, Bool, true, false, List, [], ◌∷◌, map, ℕ, zero, suc, ◌≤◌, ltb, length, get_or}
+use Rattle.times.specs.declared.date_time.DateTime.{DateTime}
+use Rattle.times.specs.declared.date.Date.{Date}
+use Rattle.times.specs.DateTimeAlong.{moment_of}
+use Rattle.times.specs.DateAlong.{day_of}
+use Rattle.std.specs.Prelude.{◌≡◌, refl, Bool, true, false, List, [], ◌∷◌, map, ℕ, zero, suc, ◌≤◌, ltb, length, get_or, Option, None, Some, is_some}
 use Rattle.std.proofs.Math.Path.{sym}
 use Rattle.std.proofs.Common.{ap, ◌∙◌, arith}
 use Rattle.std.proofs.lemmas.Bool.{false≢true}
-use Rattle.std.proofs.Math.Option.{Option, none, some}
 use Rattle.std.proofs.Math.ListN.{get_or-map}
 use Rattle.octets.specs.Ascii.{ascii}
 use Rattle.octets.specs.Pick.{pick, ◌and◌, ◌or◌}
@@ -28,26 +31,24 @@ use Rattle.numbers.specs.Sign.{after_sign}
 use Rattle.recur.specs.Parts.{ItemForm, word_of, enddate, counting, unsigned, signed, weekdaynum, Part, part_of, part_table, part_names, frequencies, weekdays}
 use Rattle.recur.specs.Item.{in_capitals, is_numeral, read_ordinal, or_other, read_enddate, read_word, read_form, read_item}
 use Rattle.recur.specs.Fits.{is_numeral_of, fits_ordinal, fits_form, item_read}
-use Rattle.recur.specs.declared.item.ItemRead.{ItemRead}
-use Rattle.recur.specs.declared.item.ItemRead.TheVariants.{Good, Bad}
 
 -- ---- an item by its form
 
-provided_read : {A B : Type 0} (t : Bool) (a : A) (g : A → B) → is_read (and_then (provided t a) (λ x. some (g x))) ≡ t
+provided_read : {A B : Type 0} (t : Bool) (a : A) (g : A → B) → is_read (and_then (provided t a) (λ x. Some (g x))) ≡ t
 unfolding pick and_then is_read
 provided_read true a g = refl
 provided_read false a g = refl
 
-pub read_then : {A B : Type 0} (o : Option A) (g : A → B) → is_read (and_then o (λ x. some (g x))) ≡ is_read o
+pub read_then : {A B : Type 0} (o : Option A) (g : A → B) → is_read (and_then o (λ x. Some (g x))) ≡ is_read o
 unfolding and_then is_read
-read_then none g = refl
-read_then (some a) g = refl
+read_then None g = refl
+read_then (Some a) g = refl
 
-both_read : {A B C : Type 0} (o : Option A) (q : Option B) (g : A → B → C) → is_read (and_then o (λ a. and_then q (λ b. some (g a b)))) ≡ (is_read o and is_read q)
+both_read : {A B C : Type 0} (o : Option A) (q : Option B) (g : A → B → C) → is_read (and_then o (λ a. and_then q (λ b. Some (g a b)))) ≡ (is_read o and is_read q)
 unfolding and_then is_read ◌and◌
-both_read none q g = refl
-both_read (some a) none g = refl
-both_read (some a) (some b) g = refl
+both_read None q g = refl
+both_read (Some a) None g = refl
+both_read (Some a) (Some b) g = refl
 
 pub provided_is : {A : Type 0} (t : Bool) (a : A) → is_read (provided t a) ≡ t
 unfolding pick is_read
@@ -57,7 +58,7 @@ provided_is false a = refl
 ordinal_read : (s : List ℕ) → is_read (read_ordinal s) ≡ fits_ordinal s
 unfolding is_read ◌or◌
 ordinal_read [] = refl
-ordinal_read (b ∷ s) = provided_read (is_numeral_of 2 1 53 (after_sign (b ∷ s))) _ (λ w. some w)
+ordinal_read (b ∷ s) = provided_read (is_numeral_of 2 1 53 (after_sign (b ∷ s))) _ (λ w. Some w)
 
 pub form_read : (f : Format) (k : ItemForm) (s : List ℕ) → is_read (read_form f k s) ≡ fits_form f k s
 form_read f (word_of ws) s = provided_read (is_one_of (in_capitals f s) ws) _ _
@@ -71,50 +72,46 @@ form_read f weekdaynum s =
 
 -- ---- an item by its part's place
 
-parts_are : map part_of part_names ≡ map (λ (r : Part). some r) part_table
+parts_are : map part_of part_names ≡ map (λ (r : Part). Some r) part_table
 unfolding octets_compute
 parts_are = refl
 
-pub part_at : (p : ℕ) → part_of (get_or part_names p []) ≡ get_or (map (λ (r : Part). some r) part_table) p none
+pub part_at : (p : ℕ) → part_of (get_or part_names p []) ≡ get_or (map (λ (r : Part). Some r) part_table) p None
 unfolding octets_compute
-part_at p = sym (get_or-map part_of part_names p []) ∙ ap (λ (l : List (Option Part)). get_or l p none) parts_are
+part_at p = sym (get_or-map part_of part_names p []) ∙ ap (λ (l : List (Option Part)). get_or l p None) parts_are
 
-pub beyond : {A : Type 0} (l : List (Option A)) (k : ℕ) → length l ≤ k → get_or l k none ≡ none
+pub beyond : {A : Type 0} (l : List (Option A)) (k : ℕ) → length l ≤ k → get_or l k None ≡ None
 beyond [] k h = refl
 beyond (x ∷ l) zero h = absurd (omega arith)
 beyond (x ∷ l) (suc k) h = beyond l k (omega arith)
 
 module _ (f : Format) (s : List ℕ) where
-  pub item_at : (p k : ℕ) {r : Bool} {g : Part} → p ≡ k → get_or (map (λ (r : Part). some r) part_table) k none ≡ some g → r ≡ fits_form f g.form s → r ≡ is_read (read_item f (get_or part_names p []) s)
+  pub item_at : (p k : ℕ) {r : Bool} {g : Part} → p ≡ k → get_or (map (λ (r : Part). Some r) part_table) k None ≡ Some g → r ≡ fits_form f g.form s → r ≡ is_read (read_item f (get_or part_names p []) s)
   unfolding and_then
   item_at p k {r} {g} e h t = t ∙ sym (form_read f g.form s) ∙ sym (rw (part_at p, e, h))
 
   pub item_beyond : (p : ℕ) → 14 ≤ p → false ≡ is_read (read_item f (get_or part_names p []) s)
   unfolding and_then is_read
-  item_beyond p h = sym (rw (part_at p, beyond (map (λ (r : Part). some r) part_table) p h))
+  item_beyond p h = sym (rw (part_at p, beyond (map (λ (r : Part). Some r) part_table) p h))
 
 -- ---- the answer
 
 module _ (p : ℕ) {b r : Bool} (e : r ≡ b) where
-  pub item_good : r ≡ true → Good p ≡ item_read p b
+  pub item_good : r ≡ true → Some p ≡ item_read p b
   item_good h = rw (← e, h)
 
-  pub item_bad : r ≡ false → Bad ≡ item_read p b
+  pub item_bad : r ≡ false → None ≡ item_read p b
   item_bad h = rw (← e, h)
 
-abbrev pub is_item_read : ItemRead → Bool
-is_item_read (Good p) = true
-is_item_read Bad = false
-
-item_is : (p : ℕ) (b : Bool) → is_item_read (item_read p b) ≡ b
+item_is : (p : ℕ) (b : Bool) → is_some (item_read p b) ≡ b
 item_is p true = refl
 item_is p false = refl
 
-module _ (p : ℕ) {b : Bool} {r : ItemRead} (e : r ≡ item_read p b) where
-  pub item_yes : {i : ℕ} → r ≡ Good i → b ≡ true
+module _ (p : ℕ) {b : Bool} {r : Option ℕ} (e : r ≡ item_read p b) where
+  pub item_yes : {i : ℕ} → r ≡ Some i → b ≡ true
   item_yes h = sym (item_is p b) ∙ rw (← e, h)
 
-  pub item_no : r ≡ Bad → b ≡ false
+  pub item_no : r ≡ None → b ≡ false
   item_no h = sym (item_is p b) ∙ rw (← e, h)
 
 -- ---- words
@@ -156,13 +153,34 @@ weekdays_are = refl
 
 -- ---- ends
 
-pub end_there : (f : Format) (s : List ℕ) → true ≡ is_read (read_date f s) → true ≡ is_read (read_enddate f s)
+day_there : (r : Option Date) → is_read (day_of r) ≡ is_some r
 unfolding is_read
-end_there f s e = go (read_date f s) e
-  where
-    go : (o : Option (List ℕ)) → true ≡ is_read o → true ≡ is_read (or_other o (read_date_time f s))
-    go none k = absurd (false≢true (sym k))
-    go (some d) k = refl
+day_there None = refl
+day_there (Some d) = refl
 
-pub end_other : (f : Format) (s : List ℕ) {r : Bool} → read_date f s ≡ none → r ≡ is_read (read_date_time f s) → r ≡ is_read (read_enddate f s)
-end_other f s e h = rw e h
+moment_there : (r : Option DateTime) → is_some r ≡ is_read (moment_of r)
+unfolding is_read
+moment_there None = refl
+moment_there (Some d) = refl
+
+module _ (f : Format) (s : List ℕ) (r : Option Date) (p : read_date f s ≡ day_of r) where
+  pub date_there : is_some r ≡ true → is_read (read_date f s) ≡ true
+  date_there h = rw p (day_there r ∙ h)
+
+  pub date_missing : is_some r ≡ false → read_date f s ≡ None
+  date_missing h = p ∙ go r h
+    where
+      go : (o : Option Date) → is_some o ≡ false → day_of o ≡ None
+      go None k = refl
+      go (Some d) k = absurd (false≢true (sym k))
+
+  pub end_there : is_some r ≡ true → true ≡ is_read (read_enddate f s)
+  unfolding is_read
+  end_there h = go (read_date f s) (date_there h)
+    where
+      go : (o : Option (List ℕ)) → is_read o ≡ true → true ≡ is_read (or_other o (read_date_time f s))
+      go None k = absurd (false≢true k)
+      go (Some d) k = refl
+
+  pub end_other : (q : Option DateTime) → is_some r ≡ false → read_date_time f s ≡ moment_of q → is_some q ≡ is_read (read_enddate f s)
+  end_other q h e = rw (date_missing h, e) (moment_there q)

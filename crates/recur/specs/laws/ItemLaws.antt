@@ -2,9 +2,8 @@
 --     item_read_back     in both formats
 --     item_accepted      in both formats
 --     item_characters    an item is written in text with digits, capitals and signs
-use Rattle.std.specs.Prelude.{◌≡◌, refl, Bool, true, false, List, ℕ}
+use Rattle.std.specs.Prelude.{◌≡◌, refl, Bool, true, false, List, ℕ, Option, None, Some}
 use Rattle.std.proofs.lemmas.Bool.{false≢true}
-use Rattle.std.proofs.Math.Option.{Option, none, some}
 use Rattle.octets.specs.Pick.{pick, within}
 use Rattle.octets.specs.laws.Pick.{and_both, pick_second}
 use Rattle.octets.specs.Scan.{all_of}
@@ -36,7 +35,7 @@ is_sound weekdaynum = true
 
 -- what is written of an item is read back, and has the characters of an item
 form_written : (f : Format) (g : ItemForm) (i : RuleItem) → is_sound g ≡ true → is_of_form g i ≡ true →
-    (read_form f g (write_item f i) ≡ some i) × (all_of is_time_char (write_item ical i) ≡ true)
+    (read_form f g (write_item f i) ≡ Some i) × (all_of is_time_char (write_item ical i) ≡ true)
 unfolding and_then
 form_written f (word_of ws) (moment m) s h = absurd (false≢true h)
 form_written f (word_of ws) (number w) s h = absurd (false≢true h)
@@ -70,25 +69,25 @@ unsigned_is : (lo hi : ℕ) (w : Whole) → (w.negative ≡ false) × (within lo
 unfolding pick
 unsigned_is lo hi w e = rw e.0 e.1
 
-form_accepted : (f : Format) (g : ItemForm) (s : List ℕ) (i : RuleItem) → read_form f g s ≡ some i → is_of_form g i ≡ true
+form_accepted : (f : Format) (g : ItemForm) (s : List ℕ) (i : RuleItem) → read_form f g s ≡ Some i → is_of_form g i ≡ true
 form_accepted f (word_of ws) s i h =
-    let e = and_then-some (read_word f ws s) (λ w. some (word w)) i h in
+    let e = and_then-some (read_word f ws s) (λ w. Some (word w)) i h in
     let z : word e.0 ≡ i = cc e.2 in
     rw (← z) (word_accepted f ws s e.0 e.1)
 form_accepted f enddate s i h =
-    let e = and_then-some (read_enddate f s) (λ m. some (moment m)) i h in
+    let e = and_then-some (read_enddate f s) (λ m. Some (moment m)) i h in
     let z : moment e.0 ≡ i = cc e.2 in
     rw (← z) (enddate_accepted f s e.0 e.1)
 form_accepted f counting s i h =
-    let e = and_then-some (read_counting s) (λ w. some (number w)) i h in
+    let e = and_then-some (read_counting s) (λ w. Some (number w)) i h in
     let z : number e.0 ≡ i = cc e.2 in
     rw (← z) (unsigned_is 1 2147483647 e.0 (counting_accepted s e.0 e.1))
 form_accepted f (unsigned d lo hi) s i h =
-    let e = and_then-some (read_unsigned d lo hi s) (λ w. some (number w)) i h in
+    let e = and_then-some (read_unsigned d lo hi s) (λ w. Some (number w)) i h in
     let z : number e.0 ≡ i = cc e.2 in
     rw (← z) (unsigned_is lo hi e.0 (unsigned_accepted d lo hi s e.0 e.1))
 form_accepted f (signed d hi) s i h =
-    let e = and_then-some (read_signed d hi s) (λ w. some (number w)) i h in
+    let e = and_then-some (read_signed d hi s) (λ w. Some (number w)) i h in
     let z : number e.0 ≡ i = cc e.2 in
     rw (← z) (signed_accepted d hi s e.0 e.1)
 form_accepted f weekdaynum s i h = weekday_accepted f s i h
@@ -99,26 +98,26 @@ table_sound : every (λ (r : Part). is_sound r.form) part_table ≡ true
 unfolding every octets_compute
 table_sound = refl
 
-part_sound : (n : List ℕ) (r : Part) → part_of n ≡ some r → is_sound r.form ≡ true
+part_sound : (n : List ℕ) (r : Part) → part_of n ≡ Some r → is_sound r.form ≡ true
 part_sound n r e = row_passes (λ (r : Part). r.name) n (λ (r : Part). is_sound r.form) part_table r table_sound e
 
 item_written : (f : Format) (n : List ℕ) (i : RuleItem) → is_item n i ≡ true →
-    (read_item f n (write_item f i) ≡ some i) × (all_of is_time_char (write_item ical i) ≡ true)
+    (read_item f n (write_item f i) ≡ Some i) × (all_of is_time_char (write_item ical i) ≡ true)
 unfolding and_then
 item_written f n i h = go (part_of n) refl h
   where
     go : (o : Option Part) → part_of n ≡ o → is_for o i ≡ true →
-        (and_then o (λ r. read_form f r.form (write_item f i)) ≡ some i) × (all_of is_time_char (write_item ical i) ≡ true)
-    go none e k = absurd (false≢true k)
-    go (some r) e k = form_written f r.form i (part_sound n r e) k
+        (and_then o (λ r. read_form f r.form (write_item f i)) ≡ Some i) × (all_of is_time_char (write_item ical i) ≡ true)
+    go None e k = absurd (false≢true k)
+    go (Some r) e k = form_written f r.form i (part_sound n r e) k
 
-pub item_read_back : (f : Format) (n : List ℕ) (i : RuleItem) → is_item n i ≡ true → read_item f n (write_item f i) ≡ some i
+pub item_read_back : (f : Format) (n : List ℕ) (i : RuleItem) → is_item n i ≡ true → read_item f n (write_item f i) ≡ Some i
 item_read_back f n i h = (item_written f n i h).0
 
 pub item_characters : (n : List ℕ) (i : RuleItem) → is_item n i ≡ true → all_of is_time_char (write_item ical i) ≡ true
 item_characters n i h = (item_written ical n i h).1
 
-pub item_accepted : (f : Format) (n s : List ℕ) (i : RuleItem) → read_item f n s ≡ some i → is_item n i ≡ true
+pub item_accepted : (f : Format) (n s : List ℕ) (i : RuleItem) → read_item f n s ≡ Some i → is_item n i ≡ true
 item_accepted f n s i h =
     let e = and_then-some (part_of n) (λ r. read_form f r.form s) i h in
     rw e.1 (form_accepted f e.0.form s i e.2)

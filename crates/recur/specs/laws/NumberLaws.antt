@@ -2,8 +2,7 @@
 --     counting_read_back, unsigned_read_back, signed_read_back
 --     counting_accepted, unsigned_accepted, signed_accepted
 --     whole_characters   a written number is digits, with a minus before them if it is negative
-use Rattle.std.specs.Prelude.{◌≡◌, refl, Bool, true, false, List, ℕ, ◌^◌, ◌≤◌, ◌<◌, eqb, leb, ltb, length}
-use Rattle.std.proofs.Math.Option.{some}
+use Rattle.std.specs.Prelude.{◌≡◌, refl, Bool, true, false, List, ℕ, ◌^◌, ◌≤◌, ◌<◌, eqb, leb, ltb, length, Some}
 use Rattle.std.proofs.Common.{arith, le-leb, leb-true, ltb-true}
 use Rattle.octets.specs.Pick.{pick, ◌and◌, ◌or◌, within}
 use Rattle.octets.specs.laws.Pick.{and_yes, or_left, or_right, and_both, within_range}
@@ -35,7 +34,7 @@ numeral_within lo hi s h =
 
 -- ---- read back
 
-pub counting_read_back : (w : Whole) → w.negative ≡ false → within 1 2147483647 w.magnitude ≡ true → read_counting (write_whole w) ≡ some w
+pub counting_read_back : (w : Whole) → w.negative ≡ false → within 1 2147483647 w.magnitude ≡ true → read_counting (write_whole w) ≡ Some w
 unfolding pick
 counting_read_back w e h =
     let n = w.magnitude in
@@ -57,7 +56,7 @@ enough_most : (d hi : ℕ) → is_enough d hi ≡ true → hi ≤ 2147483647
 enough_most d hi s = leb-true hi 2147483647 (and_both (ltb hi (10 ^ d)) (leb hi 2147483647) (and_both (ltb 0 d) (ltb hi (10 ^ d) and leb hi 2147483647) s).1).1
 
 module _ (d lo hi : ℕ) (enough : is_enough d hi ≡ true) (w : Whole) where
-  pub unsigned_read_back : w.negative ≡ false → within lo hi w.magnitude ≡ true → read_unsigned d lo hi (write_whole w) ≡ some w
+  pub unsigned_read_back : w.negative ≡ false → within lo hi w.magnitude ≡ true → read_unsigned d lo hi (write_whole w) ≡ Some w
   unfolding pick ◌and◌
   unsigned_read_back e h =
       let n = w.magnitude in
@@ -65,7 +64,7 @@ module _ (d lo hi : ℕ) (enough : is_enough d hi ≡ true) (w : Whole) where
       let m : hi ≤ 2147483647 = enough_most d hi enough in
       rw (e, enough_short d lo hi n enough h, numeral lo hi n m h, digits_value 9 n (omega arith))
 
-  pub signed_read_back : within 1 hi w.magnitude ≡ true → read_signed d hi (write_whole w) ≡ some w
+  pub signed_read_back : within 1 hi w.magnitude ≡ true → read_signed d hi (write_whole w) ≡ Some w
   unfolding pick ◌and◌
   signed_read_back h =
       let n = w.magnitude in
@@ -75,18 +74,18 @@ module _ (d lo hi : ℕ) (enough : is_enough d hi ≡ true) (w : Whole) where
 
 -- ---- accepted
 
-pub counting_accepted : (s : List ℕ) (w : Whole) → read_counting s ≡ some w → (w.negative ≡ false) × (within 1 2147483647 w.magnitude ≡ true)
+pub counting_accepted : (s : List ℕ) (w : Whole) → read_counting s ≡ Some w → (w.negative ≡ false) × (within 1 2147483647 w.magnitude ≡ true)
 counting_accepted s w h =
     let e = provided-some (is_numeral 1 2147483647 s) (whole_number false (value 0 s)) w h in
     rw (← e.1) (refl, numeral_within 1 2147483647 s e.0)
 
 module _ (d : ℕ) where
-  pub unsigned_accepted : (lo hi : ℕ) (s : List ℕ) (w : Whole) → read_unsigned d lo hi s ≡ some w → (w.negative ≡ false) × (within lo hi w.magnitude ≡ true)
+  pub unsigned_accepted : (lo hi : ℕ) (s : List ℕ) (w : Whole) → read_unsigned d lo hi s ≡ Some w → (w.negative ≡ false) × (within lo hi w.magnitude ≡ true)
   unsigned_accepted lo hi s w h =
       let e = provided-some (is_short d s and is_numeral lo hi s) (whole_number false (value 0 s)) w h in
       rw (← e.1) (refl, numeral_within lo hi s (and_both (is_short d s) (is_numeral lo hi s) e.0).1)
 
-  pub signed_accepted : (hi : ℕ) (s : List ℕ) (w : Whole) → read_signed d hi s ≡ some w → within 1 hi w.magnitude ≡ true
+  pub signed_accepted : (hi : ℕ) (s : List ℕ) (w : Whole) → read_signed d hi s ≡ Some w → within 1 hi w.magnitude ≡ true
   signed_accepted hi s w h =
       let t = after_sign s in
       let e = provided-some (is_short d t and is_numeral 1 hi t) (whole_number (has_minus s) (value 0 t)) w h in

@@ -1,15 +1,17 @@
 -- Laws of what specs/Numeral.antt defines.
-use Rattle.std.specs.Prelude.{◌≡◌, Bool, ℕ, suc, ◌+◌, ◌-◌, ◌*◌, ◌/◌, ◌^◌, ◌≤◌, ◌<◌, eqb, ltb, length}
+use Rattle.std.specs.Prelude.{◌≡◌, Bool, ℕ, suc, ◌+◌, ◌-◌, ◌*◌, ◌/◌, ◌^◌, ◌≤◌, ◌<◌, eqb, length, Option, None, Some, is_some}
 use Rattle.std.proofs.Math.Path.{refl}
 use Rattle.std.proofs.Common.{sym, ◌∙◌, arith, rules}
 use Rattle.std.proofs.Math.Bool.{true, false}
 use mathlib.Core.List.{List, [], ◌∷◌}
 use Rattle.std.proofs.Math.Dec.{leb}
-use borrow.Author.Tests.{ne_eqb, lt-ltb, le-ltb, le-leb, lt-leb, leb-true, leb-false}
+use borrow.Author.Tests.{ne_eqb, lt-ltb, le-leb, lt-leb, leb-true, leb-false}
 use Rattle.octets.specs.Pick.{pick, ◌and◌, ◌or◌}
 use Rattle.octets.specs.Scan.{all_of}
 use Rattle.octets.specs.Class.{is_digit}
 use Rattle.octets.specs.Decimal.{value}
+use Rattle.octets.specs.Reading.{provided}
+use Rattle.octets.specs.laws.Reading.{none-some}
 use Rattle.source.specs.Source.{rest, spell}
 use Rattle.source.specs.declared.Step.{Step}
 use Rattle.numbers.specs.Numeral.{front, Fronts, worth_to}
@@ -39,38 +41,43 @@ module _ {l : Bool} {m : ℕ} {s : List ℕ} {c : ℕ} {r : Step} (p : Fronts l 
 
 -- ---- a number of at least one digit, worth lo at least
 
-pub numeral_none : (lo hi : ℕ) {s : List ℕ} → s ≡ [] → numeral_in lo hi s ≡ 4294967295
+pub numeral_none : (lo hi : ℕ) {s : List ℕ} → s ≡ [] → numeral_in lo hi s ≡ None
 unfolding numeral_in pick ◌and◌
 numeral_none lo hi e = rw e
 
-module _ (lo hi : ℕ) {s t : List ℕ} {b n : ℕ} (e : s ≡ b ∷ t) (w : worth_to hi 0 s ≡ n) where
-  pub numeral_low : n < lo → numeral_in lo hi s ≡ 4294967295
+module _ (lo hi : ℕ) {s t : List ℕ} {b : ℕ} {r : Option ℕ} (e : s ≡ b ∷ t) (w : worth_to hi 0 s ≡ r) where
+  pub numeral_bad : r ≡ None → numeral_in lo hi s ≡ None
   unfolding numeral_in worth_to ◌and◌ pick
-  numeral_low h = rw (lt-ltb 0 (length s) (rw e (omega arith))) (go (all_of is_digit s and leb (value 0 s) hi) w)
+  numeral_bad f = rw (lt-ltb 0 (length s) (rw e (omega arith))) (go (all_of is_digit s and leb (value 0 s) hi) (w ∙ f))
     where
-      go : (c : Bool) → pick c (value 0 s) 4294967295 ≡ n → pick (c and leb lo (value 0 s)) (value 0 s) 4294967295 ≡ 4294967295
-      go true k = rw (k, lt-leb lo n h)
+      go : (c : Bool) → provided c (value 0 s) ≡ None → provided (c and leb lo (value 0 s)) (value 0 s) ≡ None
+      go true k = none-some (sym k)
       go false k = refl
 
-  pub numeral_some : lo ≤ n → numeral_in lo hi s ≡ n
+  pub numeral_low : {n : ℕ} → r ≡ Some n → n < lo → numeral_in lo hi s ≡ None
   unfolding numeral_in worth_to ◌and◌ pick
-  numeral_some h = rw (lt-ltb 0 (length s) (rw e (omega arith))) (go (all_of is_digit s and leb (value 0 s) hi) w)
+  numeral_low {n} f h = rw (lt-ltb 0 (length s) (rw e (omega arith))) (go (all_of is_digit s and leb (value 0 s) hi) (w ∙ f))
     where
-      go : (c : Bool) → pick c (value 0 s) 4294967295 ≡ n → pick (c and leb lo (value 0 s)) (value 0 s) 4294967295 ≡ n
-      go true k = rw (k, le-leb lo n h)
+      go : (c : Bool) → provided c (value 0 s) ≡ Some n → provided (c and leb lo (value 0 s)) (value 0 s) ≡ None
+      go true k = let z : value 0 s ≡ n = cc in rw (z, lt-leb lo n h)
+      go false k = refl
+
+  pub numeral_some : {n : ℕ} → r ≡ Some n → lo ≤ n → numeral_in lo hi s ≡ Some n
+  unfolding numeral_in worth_to ◌and◌ pick
+  numeral_some {n} f h = rw (lt-ltb 0 (length s) (rw e (omega arith))) (go (all_of is_digit s and leb (value 0 s) hi) (w ∙ f))
+    where
+      go : (c : Bool) → provided c (value 0 s) ≡ Some n → provided (c and leb lo (value 0 s)) (value 0 s) ≡ Some n
+      go true k = let z : value 0 s ≡ n = cc in rw (z, le-leb lo n h)
       go false k = k
 
 -- whether there is a number
-pub numeral_told : (lo hi : ℕ) (s : List ℕ) {n : ℕ} → hi < 4294967295 → numeral_in lo hi s ≡ n → ltb n 4294967295 ≡ is_numeral lo hi s
-unfolding numeral_in ◌and◌ pick
-numeral_told lo hi s {n} l h = go (ltb 0 (length s)) (all_of is_digit s) (leb (value 0 s) hi) (leb lo (value 0 s)) refl h
+pub numeral_told : (lo hi : ℕ) (s : List ℕ) → is_some (numeral_in lo hi s) ≡ is_numeral lo hi s
+unfolding numeral_in pick
+numeral_told lo hi s = go (is_numeral lo hi s)
   where
-    go : (a b c d : Bool) → leb (value 0 s) hi ≡ c → pick ((a and b and c) and d) (value 0 s) 4294967295 ≡ n → ltb n 4294967295 ≡ ((a and b and c) and d)
-    go true true true true e k = lt-ltb n 4294967295 (omega (arith, leb-true (value 0 s) hi e))
-    go true true true false e k = le-ltb n 4294967295 (omega arith)
-    go true true false d e k = le-ltb n 4294967295 (omega arith)
-    go true false c d e k = le-ltb n 4294967295 (omega arith)
-    go false b c d e k = le-ltb n 4294967295 (omega arith)
+    go : (c : Bool) → is_some (provided c (value 0 s)) ≡ c
+    go true = refl
+    go false = refl
 
 -- ---- how many bytes there are at most: i of them are passed
 

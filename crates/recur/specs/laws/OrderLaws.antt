@@ -4,10 +4,9 @@
 --     ordered_order      parts that are put in order are in order
 --     every_order        what holds of every part holds of the parts put in order
 --     named_order        a part is found among the parts put in order as it was before
-use Rattle.std.specs.Prelude.{◌≡◌, refl, Bool, true, false, List, [], ◌∷◌, map, ℕ}
+use Rattle.std.specs.Prelude.{◌≡◌, refl, Bool, true, false, List, [], ◌∷◌, map, ℕ, Option, None, Some}
 use Rattle.std.proofs.Common.{sym, ap, ◌∙◌}
 use Rattle.std.proofs.lemmas.Bool.{false≢true}
-use Rattle.std.proofs.Math.Option.{Option, none, some}
 use Rattle.octets.specs.Pick.{pick, ◌and◌, ◌or◌}
 use Rattle.octets.specs.laws.Pick.{or_neither, pick_second}
 use Rattle.octets.specs.Words.{same, is_one_of, row_of}
@@ -61,7 +60,7 @@ order_back (n ∷ ns) (p ∷ ps) h o = go (same n p.part) refl o (pick_second (i
   where
     go : (t : Bool) → same n p.part ≡ t → is_ordered ns (pick t ps (p ∷ ps)) ≡ true → (is_one_of n ns ≡ false) × (distinct ns ≡ true) →
         ((l : List RulePart) → distinct ns ≡ true → is_ordered ns l ≡ true → in_order ns l ≡ l) →
-        with_part (pick t (some p) (part_named n ps)) (in_order ns (p ∷ ps)) ≡ p ∷ ps
+        with_part (pick t (Some p) (part_named n ps)) (in_order ns (p ∷ ps)) ≡ p ∷ ps
     go true e k f ih = ap (λ (l : List RulePart). p ∷ l) (order_skip ns p ps (rw (← (same_true n p.part e)) f.0) ∙ ih ps f.1 k)
     go false e k f ih =
         let g = or_neither (same n p.part) (is_one_of n (map name_of ps)) (ordered_lacks n ns (p ∷ ps) f.0 k) in
@@ -81,8 +80,8 @@ ordered_order (n ∷ ns) ps h = go (part_named n ps) refl (pick_second (is_one_o
   where
     go : (o : Option RulePart) → part_named n ps ≡ o → (is_one_of n ns ≡ false) × (distinct ns ≡ true) → (distinct ns ≡ true → is_ordered ns (in_order ns ps) ≡ true) →
         is_ordered ns (after_named n (with_part o (in_order ns ps))) ≡ true
-    go none e f ih = rw (lacks_after n (in_order ns ps) (ordered_lacks n ns (in_order ns ps) f.0 (ih f.1))) (ih f.1)
-    go (some p) e f ih = rw (row_named name_of n ps p e, same_self n) (ih f.1)
+    go None e f ih = rw (lacks_after n (in_order ns ps) (ordered_lacks n ns (in_order ns ps) f.0 (ih f.1))) (ih f.1)
+    go (Some p) e f ih = rw (row_named name_of n ps p e, same_self n) (ih f.1)
 
 pub every_order : (q : RulePart → Bool) (ns : List (List ℕ)) (ps : List RulePart) → every q ps ≡ true → every q (in_order ns ps) ≡ true
 unfolding in_order with_part every ◌and◌
@@ -90,11 +89,11 @@ every_order q [] ps h = refl
 every_order q (n ∷ ns) ps h = go (part_named n ps) refl (every_order q ns ps h)
   where
     go : (o : Option RulePart) → part_named n ps ≡ o → every q (in_order ns ps) ≡ true → every q (with_part o (in_order ns ps)) ≡ true
-    go none e ih = ih
-    go (some p) e ih = rw (row_passes name_of n q ps p h e) ih
+    go None e ih = ih
+    go (Some p) e ih = rw (row_passes name_of n q ps p h e) ih
 
 -- the other names: none is found after them that was not found before
-order_none : (n : List ℕ) (ns : List (List ℕ)) (ps : List RulePart) → distinct ns ≡ true → is_one_of n ns ≡ false → part_named n (in_order ns ps) ≡ none
+order_none : (n : List ℕ) (ns : List (List ℕ)) (ps : List RulePart) → distinct ns ≡ true → is_one_of n ns ≡ false → part_named n (in_order ns ps) ≡ None
 order_none n ns ps h o = row_none name_of n (in_order ns ps) (ordered_lacks n ns (in_order ns ps) o (ordered_order ns ps h))
 
 pub named_order : (n : List ℕ) (ns : List (List ℕ)) (ps : List RulePart) → distinct ns ≡ true → is_one_of n ns ≡ true → part_named n (in_order ns ps) ≡ part_named n ps
@@ -104,10 +103,10 @@ named_order n (m ∷ ns) ps h o = go (part_named m ps) refl (same n m) refl o (p
   where
     go : (r : Option RulePart) → part_named m ps ≡ r → (t : Bool) → same n m ≡ t → (t or is_one_of n ns) ≡ true → (is_one_of m ns ≡ false) × (distinct ns ≡ true) →
         (distinct ns ≡ true → is_one_of n ns ≡ true → part_named n (in_order ns ps) ≡ part_named n ps) → part_named n (with_part r (in_order ns ps)) ≡ part_named n ps
-    go none e true s k f ih = let z : n ≡ m = same_true n m s in rw z (order_none m ns ps f.1 f.0 ∙ sym e)
-    go none e false s k f ih = ih f.1 k
-    go (some p) e true s k f ih =
+    go None e true s k f ih = let z : n ≡ m = same_true n m s in rw z (order_none m ns ps f.1 f.0 ∙ sym e)
+    go None e false s k f ih = ih f.1 k
+    go (Some p) e true s k f ih =
         let z : n ≡ m = same_true n m s in
         let w : same n p.part ≡ true = rw (row_named name_of m ps p e) s in
         rw (w, z) (sym e)
-    go (some p) e false s k f ih = rw (row_named name_of m ps p e, s) (ih f.1 k)
+    go (Some p) e false s k f ih = rw (row_named name_of m ps p e, s) (ih f.1 k)

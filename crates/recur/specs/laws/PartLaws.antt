@@ -2,10 +2,9 @@
 --     part_read_back
 --     part_accepted
 --     part_characters    its characters pass a test that the characters of items, = and the comma pass
-use Rattle.std.specs.Prelude.{◌≡◌, refl, Bool, true, false, List, [], ◌∷◌, map, ℕ}
+use Rattle.std.specs.Prelude.{◌≡◌, refl, Bool, true, false, List, [], ◌∷◌, map, ℕ, Option, None, Some}
 use Rattle.std.proofs.Common.{sym, arith, ne_eqb}
 use Rattle.std.proofs.lemmas.Bool.{false≢true}
-use Rattle.std.proofs.Math.Option.{Option, none, some}
 use Rattle.octets.specs.Pick.{pick, ◌and◌}
 use Rattle.octets.specs.laws.Pick.{and_yes, and_both, within_range}
 use Rattle.octets.specs.Scan.{all_of}
@@ -42,8 +41,8 @@ item_name : (n : List ℕ) (i : RuleItem) → is_item n i ≡ true → all_of is
 item_name n i h = go (part_of n) refl h
   where
     go : (o : Option Part) → part_of n ≡ o → is_for o i ≡ true → all_of is_capital n ≡ true
-    go none e k = absurd (false≢true k)
-    go (some r) e k =
+    go None e k = absurd (false≢true k)
+    go (Some r) e k =
         rw (← (row_named (λ (r : Part). r.name) n part_table r e)) (row_passes (λ (r : Part). r.name) n (λ (r : Part). all_of is_capital r.name) part_table r names_capital e)
 
 part_name_lem : (n : List ℕ) (is : List RuleItem) → is_part (rule_part n is) ≡ true → all_of is_capital n ≡ true
@@ -78,7 +77,7 @@ items_cut n (i ∷ is) h =
     go false [] a k = rw append_none
     go false (j ∷ l) a k = absurd (false≢true a)
 
-pub part_read_back : (p : RulePart) → is_part p ≡ true → read_part (write_part p) ≡ some p
+pub part_read_back : (p : RulePart) → is_part p ≡ true → read_part (write_part p) ≡ Some p
 unfolding begins_by and_then
 part_read_back p h =
     let n = p.part in
@@ -93,7 +92,7 @@ part_read_back p h =
     )
 
 -- there is one item at least, and one only where there is no list
-several_amount : (reading : List ℕ → Option RuleItem) (ss : List (List ℕ)) (is : List RuleItem) → is_empty ss ≡ false → read_each reading ss ≡ some is → is_amount true is ≡ true
+several_amount : (reading : List ℕ → Option RuleItem) (ss : List (List ℕ)) (is : List RuleItem) → is_empty ss ≡ false → read_each reading ss ≡ Some is → is_amount true is ≡ true
 unfolding read_each pick
 several_amount reading [] is e h = absurd (false≢true (sym e))
 several_amount reading (s ∷ ss) is e h =
@@ -101,26 +100,26 @@ several_amount reading (s ∷ ss) is e h =
     let f = cons_read-some a.0 (read_each reading ss) is a.2 in
     rw (← f.2)
 
-one_amount : (reading : List ℕ → Option RuleItem) (s : List ℕ) (is : List RuleItem) → read_each reading (s ∷ []) ≡ some is → is_amount false is ≡ true
+one_amount : (reading : List ℕ → Option RuleItem) (s : List ℕ) (is : List RuleItem) → read_each reading (s ∷ []) ≡ Some is → is_amount false is ≡ true
 unfolding read_each cons_read pick
 one_amount reading s is h =
-    let a = and_then-some (reading s) (λ i. some (i ∷ [])) is h in
+    let a = and_then-some (reading s) (λ i. Some (i ∷ [])) is h in
     let z : a.0 ∷ [] ≡ is = cc a.2 in
     rw (← z)
 
-items_amount : (n v : List ℕ) (is : List RuleItem) → read_each (read_item ical n) (items_of n v) ≡ some is → is_amount (is_list_part n) is ≡ true
+items_amount : (n v : List ℕ) (is : List RuleItem) → read_each (read_item ical n) (items_of n v) ≡ Some is → is_amount (is_list_part n) is ≡ true
 unfolding pick
 items_amount n v is h = go (is_list_part n) h
   where
-    go : (t : Bool) → read_each (read_item ical n) (pick t (cut_at 44 v) (v ∷ [])) ≡ some is → is_amount t is ≡ true
+    go : (t : Bool) → read_each (read_item ical n) (pick t (cut_at 44 v) (v ∷ [])) ≡ Some is → is_amount t is ≡ true
     go true k = several_amount (read_item ical n) (cut_at 44 v) is (cut_some 44 v) k
     go false k = one_amount (read_item ical n) v is k
 
-pub part_accepted : (s : List ℕ) (p : RulePart) → read_part s ≡ some p → is_part p ≡ true
+pub part_accepted : (s : List ℕ) (p : RulePart) → read_part s ≡ Some p → is_part p ≡ true
 part_accepted s p h =
     let n = upper (up_to is_equals s) in
     let v = past is_equals s in
-    let e = and_then-some (read_each (read_item ical n) (items_of n v)) (λ is. some (rule_part n is)) p h in
+    let e = and_then-some (read_each (read_item ical n) (items_of n v)) (λ is. Some (rule_part n is)) p h in
     let z : rule_part n e.0 ≡ p = cc e.2 in
     rw (← z)
     (and_yes (is_amount (is_list_part n) e.0) (every (is_item n) e.0)

@@ -3,11 +3,9 @@
 --     pieces_any, pieces_last, pieces_more  the first piece, cut out of the slice, and those after it
 --     Left                                  the invariant of a loop over pieces;   items_..: its ways over the items of a part
 --     cons_read_lem                         one more read
-use Rattle.std.specs.Prelude.{◌≡◌, refl, Bool, true, false, List, [], ◌∷◌, ℕ, zero, suc, ◌-◌, ◌≤◌, ◌<◌, eqb, length, take, get_or}
+use Rattle.std.specs.Prelude.{◌≡◌, refl, Bool, true, false, List, [], ◌∷◌, ℕ, ◌-◌, ◌≤◌, ◌<◌, eqb, length, take, get_or, Option, None, Some}
 use Rattle.std.proofs.Math.Path.{sym}
 use Rattle.std.proofs.Common.{ap, ◌∙◌, arith, length-take-le}
-use Rattle.std.proofs.lemmas.Bool.{false≢true}
-use Rattle.std.proofs.Math.Option.{Option, none, some}
 use borrow.Author.Tests.{eq-eqb, ne_eqb}
 use Rattle.octets.specs.Pick.{pick, ◌and◌}
 use Rattle.octets.specs.Append.{◌⊕◌}
@@ -143,6 +141,6 @@ module _ (p : ℕ) {m : ℕ} {s : List ℕ} {c₀ c e : ℕ} (t : Left (are_item
 
 pub cons_read_lem : {A : Type 0} (o : Option A) (q : Option (List A)) → is_read (and_then o (λ b. cons_read b q)) ≡ (is_read o and is_read q)
 unfolding and_then cons_read is_read ◌and◌
-cons_read_lem none q = refl
-cons_read_lem (some a) none = refl
-cons_read_lem (some a) (some l) = refl
+cons_read_lem None q = refl
+cons_read_lem (Some a) None = refl
+cons_read_lem (Some a) (Some l) = refl

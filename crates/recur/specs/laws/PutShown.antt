@@ -3,13 +3,13 @@
 --     put_item_shown, put_item_none                        where there is an item, and where there is none
 --     put_number, put_no_ordinal, put_an_ordinal           numbers
 --     put_kept, put_raised, put_end_day, put_end_moment    words and ends
-use Rattle.std.specs.Prelude.{◌≡◌, Bool, ℕ, ◌≤◌, ◌<◌, get_or}
+use Rattle.times.specs.declared.date.Date.{Date}
+use Rattle.std.specs.Prelude.{◌≡◌, Bool, ℕ, ◌≤◌, ◌<◌, get_or, Option, None, Some, is_some, unwrap_or}
 use Rattle.std.proofs.Math.Path.{refl, subst}
-use Rattle.std.proofs.Common.{sym, ◌∙◌, arith}
+use Rattle.std.proofs.Common.{sym, arith}
 use Rattle.std.proofs.Math.Bool.{true, false}
 use Rattle.std.proofs.lemmas.Bool.{false≢true}
 use mathlib.Core.List.{List, [], ◌∷◌, map}
-use Rattle.std.proofs.Math.Option.{Option, none, some}
 use Rattle.std.proofs.Math.Dec.{eqb}
 use borrow.Author.Tests.{ne_eqb, eqb-true}
 use Rattle.octets.specs.Pick.{pick}
@@ -25,8 +25,6 @@ use Rattle.source.specs.Source.{rest, spell}
 use Rattle.source.specs.declared.Step.{Step}
 use Rattle.times.specs.Date.{read_date, write_date}
 use Rattle.times.specs.DateAlong.{day_of}
-use Rattle.times.specs.declared.date.DateRead.{DateRead}
-use Rattle.times.specs.declared.date.DateRead.TheVariants.{Day, NoDate}
 use Rattle.times.specs.DateTime.{read_date_time, write_date_time}
 use Rattle.numbers.specs.Numeral.{front, Fronts}
 use Rattle.numbers.specs.laws.Numeral.{fronts_byte, fronts_end}
@@ -34,7 +32,7 @@ use Rattle.numbers.specs.Sign.{has_minus, after_sign, minus_if}
 use Rattle.recur.specs.Parts.{Part, part_of, part_table, part_names}
 use Rattle.recur.specs.Item.{in_capitals, read_enddate, write_enddate, read_item, write_item}
 use Rattle.recur.specs.Numeral.{numeral_in}
-use Rattle.recur.specs.laws.Fits.{part_at, beyond}
+use Rattle.recur.specs.laws.Fits.{part_at, beyond, date_there, date_missing}
 use Rattle.recur.specs.Shown.{shown_number, shown_ordinal, shown_at}
 use Rattle.recur.specs.laws.Shown.{end_day, end_moment, row_at, item_shown_lem, number_at}
 
@@ -48,7 +46,7 @@ module _ (g f : Format) (s : List ℕ) {d e : List ℕ} {o r : ℕ} where
   put_shown_number p a b c y l w = rw (part_at p, number_at g f s p a b c y l) w
 
   pub put_shown_beyond : (p : ℕ) → 14 ≤ p → Put d e o r [] → Put d e o r (shown_at g f (part_of (get_or part_names p [])) s)
-  put_shown_beyond p h w = rw (part_at p, beyond (map (λ (r : Part). some r) part_table) p h) w
+  put_shown_beyond p h w = rw (part_at p, beyond (map (λ (r : Part). Some r) part_table) p h) w
 
   pub put_item_shown : (p : ℕ) → is_read (read_item f (get_or part_names p []) s) ≡ true → Put d e o r (shown_at g f (part_of (get_or part_names p [])) s) →
       Put d e o r (or_nothing (write_item g) (read_item f (get_or part_names p []) s))
@@ -59,8 +57,8 @@ module _ (g f : Format) (s : List ℕ) {d e : List ℕ} {o r : ℕ} where
   put_item_none p h w = go (read_item f (get_or part_names p []) s) h
     where
       go : (q : Option RuleItem) → is_read q ≡ false → Put d e o r (or_nothing (write_item g) q)
-      go none k = w
-      go (some i) k = absurd (false≢true (sym k))
+      go None k = w
+      go (Some i) k = absurd (false≢true (sym k))
 
 -- ---- numbers, as they are put
 
@@ -73,9 +71,9 @@ module _ {l : Bool} {m : ℕ} {s : List ℕ} {c : ℕ} {r : Step} (p : Fronts l 
       go true e = ne_eqb r.u 45 (λ h. let q = eqb-true r.u 256 e in omega arith)
       go false e = refl
 
-pub put_number : (t : List ℕ) {d e : List ℕ} {o q : ℕ} (neg : Bool) (n : ℕ) {v : List ℕ} → neg ≡ has_minus t → after_sign t ≡ v → numeral_in 0 2147483647 v ≡ n →
+pub put_number : (t : List ℕ) {d e : List ℕ} {o q : ℕ} {v : List ℕ} {r : Option ℕ} {n : ℕ} (neg : Bool) → neg ≡ has_minus t → after_sign t ≡ v → numeral_in 0 2147483647 v ≡ r → n ≡ unwrap_or r 4294967295 →
     Put d e o q (minus_if neg (digits 9 n)) → Put d e o q (shown_number t)
-put_number t neg n a b c w = rw (← a, b, c) w
+put_number t neg a b c h w = rw (← a, b, c, ← h) w
 
 -- ---- words and ends, as they are put
 
@@ -94,10 +92,9 @@ module _ {d e : List ℕ} {o q : ℕ} {m : ℕ} {s : List ℕ} {c : ℕ} {r : St
   pub put_an_ordinal : (r.u ≡ 256 → ⊥) → Put d e o q (shown_number (front true (rest m s c))) → Put d e o q (shown_ordinal (up_to is_alpha (rest m s c)))
   put_an_ordinal h w = put_no (is_empty (up_to is_alpha (rest m s c))) [] (shown_number (up_to is_alpha (rest m s c))) (rw (fronts_byte p h)) w
 
-module _ {d e : List ℕ} {o q : ℕ} (g f : Format) (s : List ℕ) {r : DateRead} (p : read_date f s ≡ day_of r) where
-  pub put_end_day : {y m v : ℕ} → r ≡ Day y m v → Put d e o q (or_nothing (write_date g) (read_date f s)) → Put d e o q (or_nothing (write_enddate g) (read_enddate f s))
-  unfolding is_read
-  put_end_day h w = subst (Put d e o q) (end_day g f s (rw (p, h))) w
+module _ {d e : List ℕ} {o q : ℕ} (g f : Format) (s : List ℕ) (r : Option Date) (p : read_date f s ≡ day_of r) where
+  pub put_end_day : is_some r ≡ true → Put d e o q (or_nothing (write_date g) (read_date f s)) → Put d e o q (or_nothing (write_enddate g) (read_enddate f s))
+  put_end_day h w = subst (Put d e o q) (end_day g f s (date_there f s r p h)) w
 
-  pub put_end_moment : r ≡ NoDate → Put d e o q (or_nothing (write_date_time g) (read_date_time f s)) → Put d e o q (or_nothing (write_enddate g) (read_enddate f s))
-  put_end_moment h w = subst (Put d e o q) (end_moment g f s (p ∙ rw h)) w
+  pub put_end_moment : is_some r ≡ false → Put d e o q (or_nothing (write_date_time g) (read_date_time f s)) → Put d e o q (or_nothing (write_enddate g) (read_enddate f s))
+  put_end_moment h w = subst (Put d e o q) (end_moment g f s (date_missing f s r p h)) w

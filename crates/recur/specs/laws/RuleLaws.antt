@@ -2,10 +2,9 @@
 --     rule_read_back
 --     rule_accepted
 --     rule_visible      the text of a rule is visible characters
-use Rattle.std.specs.Prelude.{◌≡◌, refl, Bool, true, false, List, [], ◌∷◌, map, ℕ, eqb}
+use Rattle.std.specs.Prelude.{◌≡◌, refl, Bool, true, false, List, [], ◌∷◌, map, ℕ, eqb, Some}
 use Rattle.std.proofs.Common.{◌∙◌}
 use Rattle.std.proofs.lemmas.Bool.{false≢true}
-use Rattle.std.proofs.Math.Option.{some}
 use Rattle.octets.specs.Ascii.{ascii}
 use Rattle.octets.specs.Pick.{pick, ◌and◌, ◌or◌}
 use Rattle.octets.specs.laws.Pick.{and_yes, or_left, and_both}
@@ -59,7 +58,7 @@ unfolding row_of is_read ◌and◌ is_ordered
 rule_cut [] h = absurd (false≢true (rule_complete [] h))
 rule_cut (p ∷ ps) h = cut_joined 59 (write_part p) (map write_part ps) (none_holds_lem is_part write_part 59 part_lacks (p ∷ ps) (rule_parts (p ∷ ps) h))
 
-pub rule_read_back : (r : List RulePart) → is_rule r ≡ true → read_rule (write_rule r) ≡ some r
+pub rule_read_back : (r : List RulePart) → is_rule r ≡ true → read_rule (write_rule r) ≡ Some r
 unfolding and_then pick ◌and◌
 rule_read_back r h =
     let o = rule_ordered r h in
@@ -82,7 +81,7 @@ same_complete ps =
       named_order (ascii "COUNT") part_names ps names_once refl,
     )
 
-pub rule_accepted : (s : List ℕ) (r : List RulePart) → read_rule s ≡ some r → is_rule r ≡ true
+pub rule_accepted : (s : List ℕ) (r : List RulePart) → read_rule s ≡ Some r → is_rule r ≡ true
 rule_accepted s r h =
     let e = and_then-some (read_each read_part (cut_at 59 s)) ruled r h in
     let ps = e.0 in

@@ -2,10 +2,9 @@
 --     shown_is          it is what the definitions write
 --     item_shown_lem    the same by the part's name;   number_at: a part whose items are numbers
 --     end_day, end_moment    UNTIL
-use Rattle.std.specs.Prelude.{◌≡◌, refl, Bool, true, false, List, [], ◌∷◌, map, ℕ, zero, suc, ◌≤◌, ◌<◌, eqb, leb, ltb, length, get_or}
+use Rattle.std.specs.Prelude.{◌≡◌, refl, Bool, true, false, List, [], ◌∷◌, map, ℕ, zero, suc, ◌≤◌, ◌<◌, eqb, leb, ltb, length, get_or, Option, None, Some}
 use Rattle.std.proofs.Common.{sym, ap, ◌∙◌, arith, leb-true, le-leb, ne_eqb}
 use Rattle.std.proofs.lemmas.Bool.{false≢true}
-use Rattle.std.proofs.Math.Option.{Option, none, some}
 use Rattle.octets.specs.Pick.{pick, ◌and◌, ◌or◌}
 use Rattle.octets.specs.laws.Pick.{and_both, pick_either, within_range}
 use Rattle.octets.specs.Append.{◌⊕◌}
@@ -36,7 +35,7 @@ use Rattle.recur.specs.Shown.{shown_number, shown_ordinal, shown, shown_at}
 -- ---- numbers
 
 -- a number in range is the number in the widest range
-numeral_wide : (lo hi : ℕ) (s : List ℕ) → hi ≤ 2147483647 → is_numeral lo hi s ≡ true → numeral_in 0 2147483647 s ≡ value 0 s
+numeral_wide : (lo hi : ℕ) (s : List ℕ) → hi ≤ 2147483647 → is_numeral lo hi s ≡ true → numeral_in 0 2147483647 s ≡ Some (value 0 s)
 unfolding numeral_in pick ◌and◌
 numeral_wide lo hi s l h =
     let a = and_both (ltb 0 (length s) and all_of is_digit s and leb (value 0 s) hi) (leb lo (value 0 s)) h in
@@ -80,16 +79,16 @@ unfolding is_read pick
 end_day g f s h = go (read_date f s) refl h
   where
     go : (o : Option (List ℕ)) → read_date f s ≡ o → is_read o ≡ true → or_nothing (write_date g) o ≡ or_nothing (write_enddate g) (or_other o (read_date_time f s))
-    go none e k = absurd (false≢true k)
-    go (some d) e k = sym (rw (date_accepted f s d e))
+    go None e k = absurd (false≢true k)
+    go (Some d) e k = sym (rw (date_accepted f s d e))
 
-pub end_moment : (g f : Format) (s : List ℕ) → read_date f s ≡ none → or_nothing (write_date_time g) (read_date_time f s) ≡ or_nothing (write_enddate g) (read_enddate f s)
+pub end_moment : (g f : Format) (s : List ℕ) → read_date f s ≡ None → or_nothing (write_date_time g) (read_date_time f s) ≡ or_nothing (write_enddate g) (read_enddate f s)
 unfolding pick
 end_moment g f s h = rw h (go (read_date_time f s) refl)
   where
     go : (o : Option (List ℕ)) → read_date_time f s ≡ o → or_nothing (write_date_time g) o ≡ or_nothing (write_enddate g) o
-    go none e = refl
-    go (some m) e = sym (rw (not_date m (date_time_accepted f s m e)))
+    go None e = refl
+    go (Some m) e = sym (rw (not_date m (date_time_accepted f s m e)))
 
 -- ---- an item by its form
 
@@ -101,21 +100,21 @@ is_small (unsigned d lo hi) = leb hi 2147483647
 is_small (signed d hi) = leb hi 2147483647
 is_small weekdaynum = true
 
-ordinal_shown : (t : List ℕ) → fits_ordinal t ≡ true → (o : Option Whole) × (read_ordinal t ≡ some o) × (write_ordinal o ≡ shown_ordinal t)
+ordinal_shown : (t : List ℕ) → fits_ordinal t ≡ true → (o : Option Whole) × (read_ordinal t ≡ Some o) × (write_ordinal o ≡ shown_ordinal t)
 unfolding pick ◌or◌ and_then
-ordinal_shown [] h = (none, refl, refl)
+ordinal_shown [] h = (None, refl, refl)
 ordinal_shown (b ∷ t) h =
-    (some (whole_number (has_minus (b ∷ t)) (value 0 (after_sign (b ∷ t)))), rw h, shown_signed 53 (b ∷ t) (omega arith) (and_both (is_short 2 (after_sign (b ∷ t))) (is_numeral 1 53 (after_sign (b ∷ t))) h).1)
+    (Some (whole_number (has_minus (b ∷ t)) (value 0 (after_sign (b ∷ t)))), rw h, shown_signed 53 (b ∷ t) (omega arith) (and_both (is_short 2 (after_sign (b ∷ t))) (is_numeral 1 53 (after_sign (b ∷ t))) h).1)
 
 end_shown : (g f : Format) (s : List ℕ) → or_nothing (write_item g) (read_form f enddate s) ≡ or_nothing (write_enddate g) (read_enddate f s)
 unfolding and_then
 end_shown g f s = go (read_enddate f s)
   where
-    go : (o : Option (List ℕ)) → or_nothing (write_item g) (and_then o (λ m. some (moment m))) ≡ or_nothing (write_enddate g) o
-    go none = refl
-    go (some m) = refl
+    go : (o : Option (List ℕ)) → or_nothing (write_item g) (and_then o (λ m. Some (moment m))) ≡ or_nothing (write_enddate g) o
+    go None = refl
+    go (Some m) = refl
 
-weekday_shown : (g f : Format) (s : List ℕ) (o : Option Whole) (l : List ℕ) → read_ordinal (up_to is_alpha s) ≡ some o → write_ordinal o ≡ l →
+weekday_shown : (g f : Format) (s : List ℕ) (o : Option Whole) (l : List ℕ) → read_ordinal (up_to is_alpha s) ≡ Some o → write_ordinal o ≡ l →
     is_one_of (in_capitals f (from_on is_alpha s)) weekdays ≡ true → or_nothing (write_item g) (read_form f weekdaynum s) ≡ l ⊕ in_capitals f (from_on is_alpha s)
 unfolding and_then pick
 weekday_shown g f s o l p q h = rw (p, h) (ap (λ (x : List ℕ). x ⊕ in_capitals f (from_on is_alpha s)) q)
@@ -135,15 +134,15 @@ shown_is g f weekdaynum s z h =
 -- ---- an item by its part
 
 abbrev is_small_at : Option Part → Bool
-is_small_at none = true
-is_small_at (some r) = is_small r.form
+is_small_at None = true
+is_small_at (Some r) = is_small r.form
 
 small_row : (n : List ℕ) (l : List Part) → every (λ (r : Part). is_small r.form) l ≡ true → is_small_at (row_of (λ (r : Part). r.name) n l) ≡ true
 unfolding row_of
 small_row n [] h = refl
 small_row n (r ∷ l) h =
     let q = every_both (λ (r : Part). is_small r.form) r l h in
-    pick_either (λ (o : Option Part). is_small_at o ≡ true) (same n r.name) (some r) (row_of (λ (r : Part). r.name) n l) q.0 (small_row n l q.1)
+    pick_either (λ (o : Option Part). is_small_at o ≡ true) (same n r.name) (Some r) (row_of (λ (r : Part). r.name) n l) q.0 (small_row n l q.1)
 
 table_small : every (λ (r : Part). is_small r.form) part_table ≡ true
 unfolding every ◌and◌
@@ -155,12 +154,12 @@ item_shown_lem g f n s h = go (part_of n) (small_row n part_table table_small) h
   where
     go : (o : Option Part) → is_small_at o ≡ true → is_read (and_then o (λ r. read_form f r.form s)) ≡ true →
         or_nothing (write_item g) (and_then o (λ r. read_form f r.form s)) ≡ shown_at g f o s
-    go none z k = refl
-    go (some r) z k = shown_is g f r.form s z (sym (form_read f r.form s) ∙ k)
+    go None z k = refl
+    go (Some r) z k = shown_is g f r.form s z (sym (form_read f r.form s) ∙ k)
 
 -- the part at a place
 abbrev pub row_at : ℕ → Option Part
-row_at p = get_or (map (λ (r : Part). some r) part_table) p none
+row_at p = get_or (map (λ (r : Part). Some r) part_table) p None
 
 pub number_at : (g f : Format) (s : List ℕ) (p : ℕ) → (p ≡ 0 → ⊥) → (p ≡ 1 → ⊥) → (p ≡ 7 → ⊥) → (p ≡ 13 → ⊥) → p < 14 → shown_at g f (row_at p) s ≡ shown_number s
 number_at g f s zero a b c d l = absurd (a refl)

@@ -2,12 +2,11 @@
 --     value_none, value_after, listed_at, part_listed, part_single    one part
 --     known, part_same      the place of a part's name, and names compared by their places
 --     rule_read             whether there is a rule
-use Rattle.std.specs.Prelude.{◌≡◌, refl, Bool, List, [], ◌∷◌, map, ℕ, zero, suc, ◌≤◌, ◌<◌, eqb, length, take, get_or}
+use Rattle.std.specs.Prelude.{◌≡◌, refl, Bool, List, [], ◌∷◌, map, ℕ, zero, suc, ◌≤◌, ◌<◌, eqb, length, take, get_or, Option, None, Some}
 use Rattle.std.proofs.Math.Path.{sym}
 use Rattle.std.proofs.Common.{ap, ◌∙◌, arith, lt-ltb}
 use Rattle.std.proofs.Math.Bool.{true, false}
 use Rattle.std.proofs.lemmas.Bool.{false≢true}
-use Rattle.std.proofs.Math.Option.{Option, none, some}
 use Rattle.std.proofs.Math.ListN.{get_or-map}
 use Rattle.octets.specs.Ascii.{ascii}
 use Rattle.octets.specs.Pick.{pick, ◌and◌, ◌or◌}
@@ -78,15 +77,15 @@ listed_at p =
     ∙ get_or-map (λ (n : List ℕ). is_listed (part_of n)) part_names p []
 
 pub listed_beyond : (p : ℕ) → 14 ≤ p → false ≡ is_listed (part_of (get_or part_names p []))
-listed_beyond p h = sym (rw (part_at p, beyond (map (λ (r : Part). some r) part_table) p h))
+listed_beyond p h = sym (rw (part_at p, beyond (map (λ (r : Part). Some r) part_table) p h))
 
-nth_at : {A : Type 0} (l : List A) (k : ℕ) → nth l k ≡ get_or (map (λ (a : A). some a) l) k none
+nth_at : {A : Type 0} (l : List A) (k : ℕ) → nth l k ≡ get_or (map (λ (a : A). Some a) l) k None
 unfolding nth
 nth_at [] k = refl
 nth_at (a ∷ l) zero = refl
 nth_at (a ∷ l) (suc k) = nth_at l k
 
-nth_inside : {A : Type 0} (l : List A) (k : ℕ) (a : A) → nth l k ≡ some a → k < length l
+nth_inside : {A : Type 0} (l : List A) (k : ℕ) (a : A) → nth l k ≡ Some a → k < length l
 unfolding nth
 nth_inside [] k a h = let z : ◌≡◌ {A = ℕ} 0 1 = cc in absurd (omega arith)
 nth_inside (x ∷ l) zero a h = omega arith
@@ -119,10 +118,10 @@ module _ (w : List ℕ) where
 
 -- ---- the whole rule
 
-none_items : (w : List ℕ) → part_of (piece_name w) ≡ none → are_items (place_of (piece_name w) part_names) (items_of (piece_name w) (past is_equals w)) ≡ false
+none_items : (w : List ℕ) → part_of (piece_name w) ≡ None → are_items (place_of (piece_name w) part_names) (items_of (piece_name w) (past is_equals w)) ≡ false
 unfolding pick are_items and_then is_read ◌and◌
 none_items w e =
-    let g : part_of (get_or part_names (place_of (piece_name w) part_names) []) ≡ none = sym (part_place_lem (piece_name w)) ∙ e in
+    let g : part_of (get_or part_names (place_of (piece_name w) part_names) []) ≡ None = sym (part_place_lem (piece_name w)) ∙ e in
     rw (e, g)
 
 -- a piece that is a part has a part's name
@@ -131,8 +130,8 @@ unfolding place_at
 known w h = go (part_of (piece_name w)) refl (sym (part_read w) ∙ h)
   where
     go : (o : Option Part) → part_of (piece_name w) ≡ o → are_items (place_of (piece_name w) part_names) (items_of (piece_name w) (past is_equals w)) ≡ true → place_of (piece_name w) part_names < 14
-    go none e k = absurd (false≢true (sym (none_items w e) ∙ k))
-    go (some r) e k = nth_inside part_table (place_of (piece_name w) part_names) r (sym (row_place (λ (r : Part). r.name) (piece_name w) part_table) ∙ e)
+    go None e k = absurd (false≢true (sym (none_items w e) ∙ k))
+    go (Some r) e k = nth_inside part_table (place_of (piece_name w) part_names) r (sym (row_place (λ (r : Part). r.name) (piece_name w) part_table) ∙ e)
 
 -- two names, one of a part, by their places
 pub part_same : (n x : List ℕ) → place_of n part_names < 14 → eqb (place_of x part_names) (place_of n part_names) ≡ same n x
@@ -161,13 +160,13 @@ each_part_lem (w ∷ ws) = rw (cons_read_lem (read_part w) (read_each read_part 
 cons_same : {x y : List ℕ} {l m : List (List ℕ)} → x ≡ y → l ≡ m → x ∷ l ≡ y ∷ m
 cons_same p q = cc
 
-names_kept : (ws : List (List ℕ)) (ps : List RulePart) → read_each read_part ws ≡ some ps → map name_of ps ≡ map piece_name ws
+names_kept : (ws : List (List ℕ)) (ps : List RulePart) → read_each read_part ws ≡ Some ps → map name_of ps ≡ map piece_name ws
 unfolding read_each
 names_kept [] ps h = let z : [] ≡ ps = cc in rw (← z)
 names_kept (w ∷ ws) ps h =
     let e = and_then-some (read_part w) (λ b. cons_read b (read_each read_part ws)) ps h in
     let f = cons_read-some e.0 (read_each read_part ws) ps e.2 in
-    let g = and_then-some (read_each (read_item ical (piece_name w)) (items_of (piece_name w) (past is_equals w))) (λ is. some (rule_part (piece_name w) is)) e.0 e.1 in
+    let g = and_then-some (read_each (read_item ical (piece_name w)) (items_of (piece_name w) (past is_equals w))) (λ is. Some (rule_part (piece_name w) is)) e.0 e.1 in
     let z : rule_part (piece_name w) g.0 ≡ e.0 = cc g.2 in
     sym (ap (λ (l : List RulePart). map name_of l) f.2) ∙ cons_same (sym (ap (λ (p : RulePart). name_of p) z)) (names_kept ws f.0 f.1)
 
@@ -176,7 +175,7 @@ unfolding row_of is_read is_one_of ◌or◌ pick
 has_named n [] = refl
 has_named n (p ∷ ps) = go (same n p.part) (has_named n ps)
   where
-    go : (t : Bool) → has_part n ps ≡ is_one_of n (map name_of ps) → is_read (pick t (some p) (row_of name_of n ps)) ≡ (t or is_one_of n (map name_of ps))
+    go : (t : Bool) → has_part n ps ≡ is_one_of n (map name_of ps) → is_read (pick t (Some p) (row_of name_of n ps)) ≡ (t or is_one_of n (map name_of ps))
     go true ih = refl
     go false ih = ih
 
@@ -194,8 +193,8 @@ rule_read s = rw (each_part_lem (cut_at 59 s)) (go (read_each read_part (cut_at 
   where
     go : (o : Option (List RulePart)) → read_each read_part (cut_at 59 s) ≡ o →
         is_read (and_then o ruled) ≡ ((is_read o and distinct (map piece_name (cut_at 59 s))) and is_whole (cut_at 59 s))
-    go none e = refl
-    go (some ps) e =
+    go None e = refl
+    go (Some ps) e =
         let h = names_kept (cut_at 59 s) ps e in
         provided_is (distinct (map name_of ps) and is_complete ps) (in_order part_names ps) ∙ rw (h, whole_is (cut_at 59 s) ps h)
 

@@ -2,8 +2,7 @@
 --     word_read_back, word_accepted          FREQ, WKST
 --     weekday_read_back, weekday_accepted    BYDAY
 --     word_characters, number_characters, weekday_characters    they are written with digits, capitals and signs
-use Rattle.std.specs.Prelude.{◌≡◌, refl, Bool, true, false, List, [], ◌∷◌, ℕ, ◌<◌, eqb, leb}
-use Rattle.std.proofs.Math.Option.{Option, none, some}
+use Rattle.std.specs.Prelude.{◌≡◌, refl, Bool, true, false, List, [], ◌∷◌, ℕ, ◌<◌, eqb, leb, Option, None, Some}
 use Rattle.std.proofs.Common.{arith, eqb-true}
 use Rattle.std.proofs.lemmas.Bool.{lt-leb}
 use Rattle.octets.specs.Pick.{pick, ◌and◌, ◌or◌}
@@ -31,12 +30,12 @@ use Rattle.recur.specs.laws.NumberLaws.{is_enough, is_number_char, signed_read_b
 
 -- ---- words
 
-pub word_read_back : (f : Format) (ws : List (List ℕ)) (w : List ℕ) → every (all_of is_capital) ws ≡ true → is_one_of w ws ≡ true → read_word f ws w ≡ some w
+pub word_read_back : (f : Format) (ws : List (List ℕ)) (w : List ℕ) → every (all_of is_capital) ws ≡ true → is_one_of w ws ≡ true → read_word f ws w ≡ Some w
 unfolding pick
 word_read_back ical ws w c h = rw (upper_capitals w (word_passes (all_of is_capital) ws w c h), h)
 word_read_back xcal ws w c h = rw h
 
-pub word_accepted : (f : Format) (ws : List (List ℕ)) (s w : List ℕ) → read_word f ws s ≡ some w → is_one_of w ws ≡ true
+pub word_accepted : (f : Format) (ws : List (List ℕ)) (s w : List ℕ) → read_word f ws s ≡ Some w → is_one_of w ws ≡ true
 word_accepted f ws s w h = let e = provided-some (is_one_of (in_capitals f s) ws) (in_capitals f s) w h in rw (← e.1) e.0
 
 -- ---- weekdays
@@ -62,30 +61,30 @@ weekdays_capital = refl
 
 ordinal_characters : (o : Option Whole) → all_of is_number_char (write_ordinal o) ≡ true
 unfolding all_of
-ordinal_characters none = refl
-ordinal_characters (some w) = whole_characters w
+ordinal_characters None = refl
+ordinal_characters (Some w) = whole_characters w
 
-some_ordinal : (s : List ℕ) (w : Whole) → read_signed 2 53 s ≡ some w → read_ordinal s ≡ some (some w)
+some_ordinal : (s : List ℕ) (w : Whole) → read_signed 2 53 s ≡ Some w → read_ordinal s ≡ Some (Some w)
 unfolding octets_compute after_sign
 some_ordinal [] w h = none-some h
 some_ordinal (b ∷ s) w h = rw h
 
-ordinal_read_back : (o : Option Whole) → is_ordinal o ≡ true → read_ordinal (write_ordinal o) ≡ some o
+ordinal_read_back : (o : Option Whole) → is_ordinal o ≡ true → read_ordinal (write_ordinal o) ≡ Some o
 unfolding ◌and◌
-ordinal_read_back none h = refl
-ordinal_read_back (some w) h = some_ordinal (write_whole w) w (signed_read_back 2 1 53 two w h)
+ordinal_read_back None h = refl
+ordinal_read_back (Some w) h = some_ordinal (write_whole w) w (signed_read_back 2 1 53 two w h)
   where
     two : is_enough 2 53 ≡ true
     two = refl
 
-ordinal_accepted : (s : List ℕ) (o : Option Whole) → read_ordinal s ≡ some o → is_ordinal o ≡ true
-ordinal_accepted [] o h = let z : none ≡ o = cc in rw (← z)
+ordinal_accepted : (s : List ℕ) (o : Option Whole) → read_ordinal s ≡ Some o → is_ordinal o ≡ true
+ordinal_accepted [] o h = let z : None ≡ o = cc in rw (← z)
 ordinal_accepted (b ∷ s) o h =
-    let e = and_then-some (read_signed 2 53 (b ∷ s)) (λ w. some (some w)) o h in
-    let z : some e.0 ≡ o = cc e.2 in
+    let e = and_then-some (read_signed 2 53 (b ∷ s)) (λ w. Some (Some w)) o h in
+    let z : Some e.0 ≡ o = cc e.2 in
     rw (← z) (signed_accepted 2 53 (b ∷ s) e.0 e.1)
 
-pub weekday_read_back : (f : Format) (o : Option Whole) (d : List ℕ) → is_ordinal o ≡ true → is_one_of d weekdays ≡ true → read_weekday f (write_ordinal o ⊕ d) ≡ some (weekday o d)
+pub weekday_read_back : (f : Format) (o : Option Whole) (d : List ℕ) → is_ordinal o ≡ true → is_one_of d weekdays ≡ true → read_weekday f (write_ordinal o ⊕ d) ≡ Some (weekday o d)
 unfolding and_then
 weekday_read_back f o d p q =
     let c = ordinal_characters o in
@@ -97,10 +96,10 @@ weekday_read_back f o d p q =
       word_read_back f weekdays d weekdays_capital q,
     )
 
-pub weekday_accepted : (f : Format) (s : List ℕ) (i : RuleItem) → read_weekday f s ≡ some i → is_weekdaynum i ≡ true
+pub weekday_accepted : (f : Format) (s : List ℕ) (i : RuleItem) → read_weekday f s ≡ Some i → is_weekdaynum i ≡ true
 weekday_accepted f s i h =
-    let o = and_then-some (read_ordinal (up_to is_alpha s)) (λ o. and_then (read_word f weekdays (from_on is_alpha s)) (λ d. some (weekday o d))) i h in
-    let d = and_then-some (read_word f weekdays (from_on is_alpha s)) (λ d. some (weekday o.0 d)) i o.2 in
+    let o = and_then-some (read_ordinal (up_to is_alpha s)) (λ o. and_then (read_word f weekdays (from_on is_alpha s)) (λ d. Some (weekday o d))) i h in
+    let d = and_then-some (read_word f weekdays (from_on is_alpha s)) (λ d. Some (weekday o.0 d)) i o.2 in
     let z : weekday o.0 d.0 ≡ i = cc d.2 in
     rw (← z) (and_yes (is_ordinal o.0) (is_one_of d.0 weekdays) (ordinal_accepted (up_to is_alpha s) o.0 o.1) (word_accepted f weekdays (from_on is_alpha s) d.0 d.1))
 

@@ -2,8 +2,7 @@
 --     is_plain                  a word in capitals, of characters that nothing escapes or quotes
 --     parameter_words_plain, property_words_plain   the words of closed sets are such
 --     parameter_words_text, property_words_text     what has a closed set takes one TEXT
-use Rattle.std.specs.Prelude.{◌≡◌, refl, Bool, true, false, not, List, [], ◌∷◌, map, ℕ, eqb, ltb, length}
-use Rattle.std.proofs.Math.Option.{Option, none, some}
+use Rattle.std.specs.Prelude.{◌≡◌, refl, Bool, true, false, not, List, [], ◌∷◌, map, ℕ, eqb, ltb, length, Option, None, Some}
 use Rattle.std.proofs.Common.{arith}
 use Rattle.std.proofs.lemmas.Bool.{not-true}
 use Rattle.octets.specs.Ascii.{ascii}
@@ -36,32 +35,32 @@ abbrev pub is_plain : List ℕ → Bool
 is_plain w = ltb 0 (length w) and all_of is_word_char w and same (upper w) w
 
 every_plain : Option (List (List ℕ)) → Bool
-every_plain none = true
-every_plain (some ws) = every is_plain ws
+every_plain None = true
+every_plain (Some ws) = every is_plain ws
 
-plain_of : (o : Option (List (List ℕ))) (ws : List (List ℕ)) (w : List ℕ) → every_plain o ≡ true → o ≡ some ws → is_one_of w ws ≡ true → is_plain w ≡ true
+plain_of : (o : Option (List (List ℕ))) (ws : List (List ℕ)) (w : List ℕ) → every_plain o ≡ true → o ≡ Some ws → is_one_of w ws ≡ true → is_plain w ≡ true
 unfolding every_plain
-plain_of none ws w a e h = none-some e
-plain_of (some vs) ws w a e h = let q : vs ≡ ws = cc in word_passes is_plain ws w (rw q at a) h
+plain_of None ws w a e h = none-some e
+plain_of (Some vs) ws w a e h = let q : vs ≡ ws = cc in word_passes is_plain ws w (rw q at a) h
 
 parameters_plain : (q : List ℕ) → every_plain (parameter_words q) ≡ true
 unfolding octets_compute parameter_row every_plain
 parameters_plain q = row_any_passes (λ r. r.name) q (λ r. every_plain r.words) unrecognised_parameter parameter_table refl refl
 
 words_plain : (w : List ℕ) (rs : List WordsRow) → every (λ r. every is_plain r.words) rs ≡ true →
-    every_plain (and_then (row_of (λ r. r.name) w rs) (λ r. some r.words)) ≡ true
+    every_plain (and_then (row_of (λ r. r.name) w rs) (λ r. Some r.words)) ≡ true
 unfolding every_plain and_then
 words_plain w rs a = go (row_of (λ r. r.name) w rs) refl
   where
-    go : (o : Option WordsRow) → row_of (λ r. r.name) w rs ≡ o → every_plain (and_then o (λ r. some r.words)) ≡ true
-    go none e = refl
-    go (some r) e = row_passes (λ r. r.name) w (λ r. every is_plain r.words) rs r a e
+    go : (o : Option WordsRow) → row_of (λ r. r.name) w rs ≡ o → every_plain (and_then o (λ r. Some r.words)) ≡ true
+    go None e = refl
+    go (Some r) e = row_passes (λ r. r.name) w (λ r. every is_plain r.words) rs r a e
 
 sets_plain : every (λ r. every is_plain r.words) words_table ≡ true
 unfolding octets_compute
 sets_plain = refl
 
-status_words_lem : (c : List ℕ) → every_plain (some (read_or elsewhere (row_of (λ r. r.name) c status_table)).words) ≡ true
+status_words_lem : (c : List ℕ) → every_plain (Some (read_or elsewhere (row_of (λ r. r.name) c status_table)).words) ≡ true
 unfolding octets_compute every_plain
 status_words_lem c = row_any_passes (λ r. r.name) c (λ r. every is_plain r.words) elsewhere status_table refl refl
 
@@ -69,10 +68,10 @@ properties_plain : (c p : List ℕ) → every_plain (property_words c p) ≡ tru
 unfolding property_words
 properties_plain c p = pick_either (λ o. every_plain o ≡ true) (same p (ascii "STATUS")) _ _ (status_words_lem c) (words_plain p words_table sets_plain)
 
-pub parameter_words_plain : (q : List ℕ) (ws : List (List ℕ)) (w : List ℕ) → parameter_words q ≡ some ws → is_one_of w ws ≡ true → is_plain w ≡ true
+pub parameter_words_plain : (q : List ℕ) (ws : List (List ℕ)) (w : List ℕ) → parameter_words q ≡ Some ws → is_one_of w ws ≡ true → is_plain w ≡ true
 parameter_words_plain q ws w e h = plain_of (parameter_words q) ws w (parameters_plain q) e h
 
-pub property_words_plain : (c p : List ℕ) (ws : List (List ℕ)) (w : List ℕ) → property_words c p ≡ some ws → is_one_of w ws ≡ true → is_plain w ≡ true
+pub property_words_plain : (c p : List ℕ) (ws : List (List ℕ)) (w : List ℕ) → property_words c p ≡ Some ws → is_one_of w ws ≡ true → is_plain w ≡ true
 property_words_plain c p ws w e h = plain_of (property_words c p) ws w (properties_plain c p) e h
 
 -- ---- their types
@@ -81,7 +80,7 @@ row_text : (q : List ℕ) → pick (is_read (parameter_words q)) (same_type (par
 unfolding octets_compute parameter_row same_type
 row_text q = row_any_passes (λ r. r.name) q (λ r. pick (is_read r.words) (same_type r.type TEXT and not r.listed) true) unrecognised_parameter parameter_table refl refl
 
-pub parameter_words_text : (q : List ℕ) (ws : List (List ℕ)) → parameter_words q ≡ some ws → (parameter_type q ≡ TEXT) × (is_listed_parameter q ≡ false)
+pub parameter_words_text : (q : List ℕ) (ws : List (List ℕ)) → parameter_words q ≡ Some ws → (parameter_type q ≡ TEXT) × (is_listed_parameter q ≡ false)
 unfolding is_read pick
 parameter_words_text q ws e = (same_type_true _ _ (and_both _ _ both).0, not-true _ (and_both _ _ both).1)
   where
@@ -97,20 +96,20 @@ unfolding octets_compute is_one_text property_row same_type
 closed_texts = refl
 
 -- a property with a closed set is STATUS or a row of the table
-closed_named : (c p : List ℕ) (ws : List (List ℕ)) → property_words c p ≡ some ws → is_one_of p (ascii "STATUS" ∷ map (λ r. r.name) words_table) ≡ true
+closed_named : (c p : List ℕ) (ws : List (List ℕ)) → property_words c p ≡ Some ws → is_one_of p (ascii "STATUS" ∷ map (λ r. r.name) words_table) ≡ true
 unfolding property_words is_one_of pick ◌or◌ and_then
 closed_named c p ws e = go (same p (ascii "STATUS")) e
   where
-    rows : (b : Bool) → is_one_of p (map (λ r. r.name) words_table) ≡ b → and_then (row_of (λ r. r.name) p words_table) (λ r. some r.words) ≡ some ws → b ≡ true
+    rows : (b : Bool) → is_one_of p (map (λ r. r.name) words_table) ≡ b → and_then (row_of (λ r. r.name) p words_table) (λ r. Some r.words) ≡ Some ws → b ≡ true
     rows true h k = refl
     rows false h k = let z : ◌≡◌ {A = ℕ} 0 1 = cc (row_none (λ r. r.name) p words_table h) in absurd (omega arith)
 
-    go : (b : Bool) → pick b (some (read_or elsewhere (row_of (λ r. r.name) c status_table)).words) (and_then (row_of (λ r. r.name) p words_table) (λ r. some r.words)) ≡ some ws →
+    go : (b : Bool) → pick b (Some (read_or elsewhere (row_of (λ r. r.name) c status_table)).words) (and_then (row_of (λ r. r.name) p words_table) (λ r. Some r.words)) ≡ Some ws →
         (b or is_one_of p (map (λ r. r.name) words_table)) ≡ true
     go true k = refl
     go false k = rows _ refl k
 
-pub property_words_text : (c p : List ℕ) (ws : List (List ℕ)) → property_words c p ≡ some ws → (permitted_types p ≡ TEXT ∷ []) × (is_listed_property p ≡ false)
+pub property_words_text : (c p : List ℕ) (ws : List (List ℕ)) → property_words c p ≡ Some ws → (permitted_types p ≡ TEXT ∷ []) × (is_listed_property p ≡ false)
 unfolding is_one_text
 property_words_text c p ws e =
     let d : default_type p ≡ TEXT = same_type_true _ _ (and_both _ _ passed).0 in

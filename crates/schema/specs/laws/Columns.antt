@@ -25,17 +25,17 @@ use Rattle.octets.specs.laws.Lists.{word_passes}
 use Rattle.octets.specs.Computing.{octets_compute}
 use Rattle.names.specs.Table.{place_of}
 use Rattle.names.specs.laws.Table.{one_of_place, place_within}
-use Rattle.names.specs.laws.Places.{name_place, placed, same_place}
+use Rattle.names.specs.laws.Places.{placed, same_place}
 use Rattle.calendar.specs.Calendar.{ValueType, UNKNOWN}
 use Rattle.schema.specs.Types.{value_types, type_place, same_type, is_type_of}
-use Rattle.schema.specs.laws.Types.{place_type, type_passes}
+use Rattle.schema.specs.laws.Types.{type_passes}
 use Rattle.schema.specs.Parameters.{parameter_names, is_known_parameter}
 use Rattle.schema.specs.Components.{ComponentRow, audioprop, dispprop, emailprop, component_table, component_names, component_row, unknown_component, subcomponents_of, is_known_component, may_contain, is_alarm, may_stand}
 use Rattle.schema.specs.Properties.{PropertyRow, default_type, permitted_types, is_listed_property, property_table, property_names, property_row, unrecognised_property, is_known_property, permits_parameter}
 use Rattle.schema.specs.laws.Rows.{stand_known, subcomponents_known}
 use Rattle.schema.specs.laws.Unknown.{unknown_stands, outside_row}
 use Rattle.schema.specs.laws.Sets.{calendar_place}
-use Rattle.schema.specs.Numbers.{type_at, component_at, property_at, component_name, property_name, parameter_name}
+use Rattle.schema.specs.Numbers.{component_at, property_at, component_name, property_name}
 use Rattle.schema.specs.laws.Numbers.{property_place, component_place}
 use Rattle.schema.specs.laws.Places.{known_component, component_at_lem, property_at_lem, no_property}
 use Rattle.schema.specs.laws.Cells.{digit, digit_is, grid, cell_at, column_at, at_passes, row_at_passes}

@@ -1,24 +1,23 @@
 -- Laws of what specs/Completing.antt defines.
---     actions_are    the table of these words in the code
+--     action_none, action_some     for code: the words of ACTION are a closed set
 --     complete-tallies, method_tallies  they are what Counts says of the properties
 --     halves_often, Testing     for code: the table in two halves, and the loop over one
-use Rattle.std.specs.Prelude.{◌≡◌, refl, Bool, true, false, ℕ, zero, suc, ◌+◌, ◌-◌, ◌≤◌, ◌<◌, min, eqb, leb, ltb, length, get_or}
+use Rattle.std.specs.Prelude.{◌≡◌, refl, Bool, true, false, ℕ, zero, suc, ◌+◌, ◌-◌, ◌≤◌, ◌<◌, min, eqb, leb, ltb, length, get_or, Option, None, Some}
 use Rattle.std.proofs.Math.Path.{sym, ap}
 use Rattle.std.proofs.Common.{◌∙◌, not-suc-le-zero, le_of_suc-le-suc, arith, rules, eqb-true, eq-eqb, ne_eqb, le-leb, leb-true, leb-false, ltb-true, ltb-false}
-use Rattle.std.proofs.lemmas.Bool.{false≢true, eqb-false, lt-leb}
+use Rattle.std.proofs.lemmas.Bool.{false≢true, lt-leb}
 use mathlib.Core.List.{List, [], ◌∷◌, map}
-use Rattle.std.proofs.Math.Option.{Option, none, some}
 use Rattle.std.proofs.Math.Decide.{dec_le}
 use Rattle.std.proofs.Math.ListN.{get_or-map, get_or-eq_default}
 use Rattle.bits.specs.Masks.{has}
 use Rattle.octets.specs.Ascii.{ascii}
 use Rattle.octets.specs.Pick.{pick, ◌and◌, ◌or◌}
-use Rattle.octets.specs.laws.Pick.{and_both, pick_first, pick_take, pick_skip}
+use Rattle.octets.specs.laws.Pick.{and_both, pick_take, pick_skip}
 use Rattle.octets.specs.Words.{is_one_of}
 use Rattle.octets.specs.Lists.{every}
 use Rattle.octets.specs.Reading.{and_then}
 use Rattle.octets.specs.Computing.{octets_compute}
-use Rattle.names.specs.Table.{place_of, names_in}
+use Rattle.names.specs.Table.{place_of, nth}
 use Rattle.names.specs.laws.Table.{row_then}
 use Rattle.calendar.specs.Calendar.{Property}
 use Rattle.schema.specs.Components.{Occurrence, ComponentRow, component_table, component_names, unknown_component, alarm_table, list_in, occurrences_of, alarm_occurrences, is_alarm}
@@ -30,26 +29,38 @@ use Rattle.schema.specs.Numbers.{component_at, property_at, property_name}
 use Rattle.schema.specs.laws.Numbers.{component_place}
 use Rattle.schema.specs.laws.Cells.{row_at_passes, below_passes}
 use Rattle.schema.specs.laws.Columns.{alarm_place}
+use Rattle.schema.specs.Sets.{set_of, word_in}
 use Rattle.schema.specs.laws.Sets.{calendar_place, event_place, todo_place, timezone_place}
 use Rattle.schema.specs.Arrays.{tallies, each_from}
 use Rattle.schema.specs.laws.Arrays.{tally_count, from_list, from_more, from_stop, from_end}
 use Rattle.schema.specs.Computing.{schema_compute}
 use Rattle.schema.specs.Coded.{columns, coded, first_half, second_half}
 use Rattle.schema.specs.laws.Halving.{get_d_any, first_at, second_at}
-use Rattle.schema.specs.Completing.{often_in, half_often, all_often, often_at, pairs_at, complete_at, method_at, action_names, action_number}
+use Rattle.schema.specs.Completing.{often_in, half_often, all_often, often_at, pairs_at, complete_at, method_at, list_of, alarm_often, action_names, action_at, action_named, alarm_action}
 use Rattle.schema.specs.Property as property
 use Rattle.schema.specs.declared.table.Entry.{Entry}
+use Rattle.schema.specs.declared.Action.{Action}
+use Rattle.schema.specs.declared.Action.TheVariants.{Audio, Display, Email}
 
-pub actions_are : names_in (ascii "AUDIO\nDISPLAY\nEMAIL\n") ≡ action_names
-unfolding names_in pick
-actions_are = refl
+action_set : (w : List ℕ) → word_in (set_of (Some 4)) w ≡ word_in (Some action_names) w
+unfolding nth and_then
+action_set w = refl
+
+module _ (w : List ℕ) {r : Option ℕ} (e : r ≡ word_in (set_of (Some 4)) w) where
+  pub action_none : r ≡ None → None ≡ action_named w
+  unfolding and_then
+  action_none h = rw (← (action_set w), ← e, h)
+
+  pub action_some : {i : ℕ} {a : Action} → r ≡ Some i → a ≡ action_at i → Some a ≡ action_named w
+  unfolding and_then
+  action_some h f = rw (← (action_set w), ← e, h, f)
 
 -- ---- how often
 
 -- in one of the five ways
 abbrev plain_by : ℕ → Option ℕ → Bool
-plain_by l none = leb l 1
-plain_by l (some m) = leb m 1 and leb l m
+plain_by l None = leb l 1
+plain_by l (Some m) = leb m 1 and leb l m
 
 abbrev is_plain : Occurrence → Bool
 is_plain o = plain_by o.least o.most
@@ -77,7 +88,7 @@ abbrev least_in : Entry → ℕ → ℕ
 least_in e l = pick (has e.least l) 1 0
 
 abbrev most_in : Entry → ℕ → Option ℕ
-most_in e l = pick (has e.many l) none (some (pick (has e.once l) 1 0))
+most_in e l = pick (has e.many l) None (Some (pick (has e.once l) 1 0))
 
 one_at_most : (n : ℕ) → 1 ≤ n → eqb n 1 ≡ leb n 1
 one_at_most n k = go (leb n 1) refl
@@ -87,7 +98,7 @@ one_at_most n k = go (leb n 1) refl
     go false e = ne_eqb n 1 (λ q. omega (arith, q, leb-false n 1 e))
 
 often_some : (n : ℕ) → 1 ≤ n → (least many once : Bool) →
-    pick many true (pick once (eqb n 1) false) ≡ (leb (pick least 1 0) n and is_at_most (pick many none (some (pick once 1 0))) n)
+    pick many true (pick once (eqb n 1) false) ≡ (leb (pick least 1 0) n and is_at_most (pick many None (Some (pick once 1 0))) n)
 unfolding pick ◌and◌
 often_some n k true true once = rw (le-leb 1 n k)
 often_some n k false true once = rw (le-leb 0 n (omega arith))
@@ -96,7 +107,7 @@ often_some n k false false true = rw (le-leb 0 n (omega arith)) (one_at_most n k
 often_some n k true false false = rw (le-leb 1 n k, lt-leb n 0 k)
 often_some n k false false false = rw (le-leb 0 n (omega arith), lt-leb n 0 k)
 
-often_none : (least many once : Bool) → pick least false true ≡ (leb (pick least 1 0) 0 and is_at_most (pick many none (some (pick once 1 0))) 0)
+often_none : (least many once : Bool) → pick least false true ≡ (leb (pick least 1 0) 0 and is_at_most (pick many None (Some (pick once 1 0))) 0)
 unfolding pick ◌and◌
 often_none true many once = refl
 often_none false true once = refl
@@ -104,10 +115,10 @@ often_none false false true = refl
 often_none false false false = refl
 
 often_by : (least many once : Bool) (n : ℕ) →
-    pick (eqb n 0) (pick least false true) (pick many true (pick once (eqb n 1) false)) ≡ (leb (pick least 1 0) n and is_at_most (pick many none (some (pick once 1 0))) n)
+    pick (eqb n 0) (pick least false true) (pick many true (pick once (eqb n 1) false)) ≡ (leb (pick least 1 0) n and is_at_most (pick many None (Some (pick once 1 0))) n)
 often_by least many once n = go (dec_le 1 n)
   where
-    go : Dec (1 ≤ n) → pick (eqb n 0) (pick least false true) (pick many true (pick once (eqb n 1) false)) ≡ (leb (pick least 1 0) n and is_at_most (pick many none (some (pick once 1 0))) n)
+    go : Dec (1 ≤ n) → pick (eqb n 0) (pick least false true) (pick many true (pick once (eqb n 1) false)) ≡ (leb (pick least 1 0) n and is_at_most (pick many None (Some (pick once 1 0))) n)
     go (yes k) = sym (pick_skip _ _ _ (ne_eqb n 0 (λ e. omega (arith, k, e))) (sym (often_some n k least many once)))
     go (no k) = let z : n ≡ 0 = omega (arith, k) in sym (pick_take _ _ _ (eq-eqb n 0 z) (rw z (sym (often_none least many once))))
 
@@ -117,24 +128,24 @@ often_is e l n = often_by (has e.least l) (has e.many l) (has e.once l) n
 
 -- counted to 255
 saturated : (l : ℕ) (m : Option ℕ) (n : ℕ) → plain_by l m ≡ true → (leb l (min 255 n) and is_at_most m (min 255 n)) ≡ (leb l n and is_at_most m n)
-saturated l none n h = rw (leb_agree l (min 255 n) l n (λ k. omega arith) (λ k. omega (arith, leb-true l 1 h)))
-saturated l (some m) n h =
+saturated l None n h = rw (leb_agree l (min 255 n) l n (λ k. omega arith) (λ k. omega (arith, leb-true l 1 h)))
+saturated l (Some m) n h =
     let p : m ≤ 1 = leb-true m 1 (and_both (leb m 1) (leb l m) h).0 in
     let q : l ≤ m = leb-true l m (and_both (leb m 1) (leb l m) h).1 in
     rw (leb_agree l (min 255 n) l n (λ k. omega arith) (λ k. omega arith), leb_agree (min 255 n) m n m (λ k. omega arith) (λ k. omega arith))
 
 unfoldable pub even_most : Option ℕ → Option ℕ → Bool
-even_most none none = true
-even_most none (some n) = false
-even_most (some m) none = false
-even_most (some m) (some n) = eqb m n
+even_most None None = true
+even_most None (Some n) = false
+even_most (Some m) None = false
+even_most (Some m) (Some n) = eqb m n
 
 pub most_is : (a b : Option ℕ) → even_most a b ≡ true → a ≡ b
 unfolding even_most
-most_is none none h = refl
-most_is none (some n) h = absurd (false≢true h)
-most_is (some m) none h = absurd (false≢true h)
-most_is (some m) (some n) h = ap some (eqb-true m n h)
+most_is None None h = refl
+most_is None (Some n) h = absurd (false≢true h)
+most_is (Some m) None h = absurd (false≢true h)
+most_is (Some m) (Some n) h = ap Some (eqb-true m n h)
 
 -- the masks of a row say what the list says of its name, and that is one of the five ways
 often_masked : PropertyRow → ℕ → Bool
@@ -178,23 +189,30 @@ all_often_lem l ps k =
 -- ---- the list that decides
 
 -- the list of a word of ACTION, by its number
-alarm_lists : map (λ r. some r.occurrences) alarm_table ≡ some (list_in 8) ∷ some (list_in 9) ∷ some (list_in 10) ∷ []
+alarm_lists : map (λ r. Some r.occurrences) alarm_table ≡ Some (list_in 8) ∷ Some (list_in 9) ∷ Some (list_in 10) ∷ []
 alarm_lists = refl
 
-alarm_list : (n : ℕ) → n < 3 → get_or (map (λ r. some r.occurrences) alarm_table) n none ≡ some (list_in (n + 8))
+alarm_list : (n : ℕ) → n < 3 → get_or (map (λ r. Some r.occurrences) alarm_table) n None ≡ Some (list_in (n + 8))
 alarm_list zero h = refl
 alarm_list (suc zero) h = refl
 alarm_list (suc (suc zero)) h = refl
 alarm_list (suc (suc (suc n))) h = absurd (omega (arith, h))
 
-of_alarm : (a : Option (List ℕ)) (ps : List Property) → often_for (and_then a alarm_occurrences) ps ≡ pick (ltb (action_number a) 3) (all_often (action_number a + 8) (tallies ps)) false
+action_list : (n : ℕ) → n < 3 → list_of (action_at n) ≡ n + 8
+unfolding pick
+action_list zero h = refl
+action_list (suc zero) h = refl
+action_list (suc (suc zero)) h = refl
+action_list (suc (suc (suc n))) h = absurd (omega (arith, h))
+
+of_alarm : (a : Option (List ℕ)) (ps : List Property) → often_for (and_then a alarm_occurrences) ps ≡ alarm_often (alarm_action a) (tallies ps)
 unfolding and_then alarm_occurrences pick
-of_alarm none ps = refl
-of_alarm (some w) ps = rw (row_then (λ r. r.action) w (λ r. some r.occurrences) alarm_table) (go (place_of w action_names) (ltb (place_of w action_names) 3) refl)
+of_alarm None ps = refl
+of_alarm (Some w) ps = rw (row_then (λ r. r.action) w (λ r. Some r.occurrences) alarm_table) (go (place_of w action_names) (ltb (place_of w action_names) 3) refl)
   where
-    go : (n : ℕ) (b : Bool) → ltb n 3 ≡ b → often_for (get_or (map (λ r. some r.occurrences) alarm_table) n none) ps ≡ pick b (all_often (n + 8) (tallies ps)) false
-    go n true e = let h = ltb-true n 3 e in rw (alarm_list n h, all_often_lem (n + 8) ps (omega (arith, h)))
-    go n false e = rw (get_or-eq_default (map (λ r. some r.occurrences) alarm_table) none (ltb-false n 3 e))
+    go : (n : ℕ) (b : Bool) → ltb n 3 ≡ b → often_for (get_or (map (λ r. Some r.occurrences) alarm_table) n None) ps ≡ alarm_often (and_then (pick b (Some n) None) (λ i. Some (action_at i))) (tallies ps)
+    go n true e = let h = ltb-true n 3 e in rw (alarm_list n h, action_list n h, all_often_lem (n + 8) ps (omega (arith, h)))
+    go n false e = rw (get_or-eq_default (map (λ r. Some r.occurrences) alarm_table) None (ltb-false n 3 e))
 
 -- the list of a known component other than VALARM
 component_list : (k : ℕ) → k < 9 → eqb k 8 ≡ false → (component_at k).occurrences ≡ list_in k
@@ -218,12 +236,12 @@ of_component c ps f = ap (λ (r : ComponentRow). each_often property_names r.occ
     go k true e f = let h = ltb-true k 9 e in ap (λ (os : List Occurrence). each_often property_names os ps) (component_list k h f) ∙ sym (all_often_lem k ps (omega (arith, h)))
     go k false e f = ap (λ (r : ComponentRow). each_often property_names r.occurrences ps) (get_or-eq_default component_table unknown_component (ltb-false k 9 e)) ∙ unknown_often ps
 
-often_number : (c : List ℕ) (ps : List Property) → often_for (list_for c ps) ps ≡ often_at (place_of c component_names) (tallies ps) (action_number (action_of ps))
+often_number : (c : List ℕ) (ps : List Property) → often_for (list_for c ps) ps ≡ often_at (place_of c component_names) (tallies ps) (alarm_action (action_of ps))
 unfolding pick
 often_number c ps = rw (← (alarm_place c)) (go (is_alarm c) refl)
   where
-    go : (b : Bool) → is_alarm c ≡ b → often_for (pick b (and_then (action_of ps) alarm_occurrences) (some (occurrences_of c))) ps ≡
-        pick b (pick (ltb (action_number (action_of ps)) 3) (all_often (action_number (action_of ps) + 8) (tallies ps)) false)
+    go : (b : Bool) → is_alarm c ≡ b → often_for (pick b (and_then (action_of ps) alarm_occurrences) (Some (occurrences_of c))) ps ≡
+        pick b (alarm_often (alarm_action (action_of ps)) (tallies ps))
         (pick (ltb (place_of c component_names) 9) (all_often (place_of c component_names) (tallies ps)) true)
     go true e = of_alarm (action_of ps) ps
     go false e = of_component c ps (sym (alarm_place c) ∙ e)
@@ -272,19 +290,23 @@ method_tallies c ps m =
 
 -- in a VALARM that is as often as its list says DURATION stands at most once
 abbrev pub is_once : Option ℕ → Bool
-is_once none = false
-is_once (some m) = leb m 1
+is_once None = false
+is_once (Some m) = leb m 1
 
 pub once_short : (m : Option ℕ) (n : ℕ) → is_once m ≡ true → is_at_most m n ≡ true → n ≤ 1
-once_short none n h k = absurd (false≢true h)
-once_short (some m) n h k = omega (arith, leb-true m 1 h, leb-true n m k)
+once_short None n h k = absurd (false≢true h)
+once_short (Some m) n h k = omega (arith, leb-true m 1 h, leb-true n m k)
 
-alarm_once : (a : ℕ) → a < 3 → is_once (occurrence_in (list_in (a + 8)) (ascii "DURATION")).most ≡ true
+alarm_once : (a : Action) → is_once (occurrence_in (list_in (list_of a)) (ascii "DURATION")).most ≡ true
 unfolding schema_compute
-alarm_once zero h = refl
-alarm_once (suc zero) h = refl
-alarm_once (suc (suc zero)) h = refl
-alarm_once (suc (suc (suc a))) h = absurd (omega (arith, h))
+alarm_once Audio = refl
+alarm_once Display = refl
+alarm_once Email = refl
+
+list_within : (a : Action) → list_of a < 12
+list_within Audio = omega arith
+list_within Display = omega arith
+list_within Email = omega arith
 
 duration_known : is_one_of (ascii "DURATION") property_names ≡ true
 unfolding octets_compute
@@ -292,18 +314,18 @@ duration_known = refl
 
 short : (c : List ℕ) (ps : List Property) → often_for (list_for c ps) ps ≡ true → is_alarm c ≡ true → tally (ascii "DURATION") ps ≤ 1
 unfolding pick
-short c ps x a = go (pick_first _ _ (sym (of_alarm (action_of ps) ps) ∙ rw a at x))
+short c ps x a = go (alarm_action (action_of ps)) (sym (of_alarm (action_of ps) ps) ∙ rw a at x)
   where
-    go : (ltb (action_number (action_of ps)) 3 ≡ true) × (all_often (action_number (action_of ps) + 8) (tallies ps) ≡ true) → tally (ascii "DURATION") ps ≤ 1
-    go q =
-        let h = ltb-true (action_number (action_of ps)) 3 q.0 in
-        once_short (occurrence_in (list_in (action_number (action_of ps) + 8)) (ascii "DURATION")).most (tally (ascii "DURATION") ps)
-        (alarm_once (action_number (action_of ps)) h)
-        (and_both _ _ (often_at_lem property_names (list_in (action_number (action_of ps) + 8)) ps (ascii "DURATION")
-        (sym (all_often_lem (action_number (action_of ps) + 8) ps (omega (arith, h))) ∙ q.1) duration_known)).1
+    go : (o : Option Action) → alarm_often o (tallies ps) ≡ true → tally (ascii "DURATION") ps ≤ 1
+    go None q = absurd (false≢true q)
+    go (Some n) q =
+        once_short (occurrence_in (list_in (list_of n)) (ascii "DURATION")).most (tally (ascii "DURATION") ps)
+        (alarm_once n)
+        (and_both _ _ (often_at_lem property_names (list_in (list_of n)) ps (ascii "DURATION")
+        (sym (all_often_lem (list_of n) ps (list_within n)) ∙ q) duration_known)).1
 
 pub complete-tallies : (c : List ℕ) (ps : List Property) (sub : Around) →
-    complete_at (place_of c component_names) (tallies ps) (action_number (action_of ps)) sub ≡ complete c ps sub
+    complete_at (place_of c component_names) (tallies ps) (alarm_action (action_of ps)) sub ≡ complete c ps sub
 unfolding complete ◌and◌
 complete-tallies c ps sub = rw (← (often_number c ps)) (go (often_for (list_for c ps) ps) refl)
   where

@@ -4,14 +4,14 @@
 --     found_hit, found_miss, found_end    what is found at the place of the key
 --     by_first, by_second    the row of a property in the half of the table that its key names
 --     table_halved    the number of a property by the halves of its name's number
-use Rattle.std.specs.Prelude.{◌≡◌, refl, Bool, true, false, ◌&&◌, List, [], ◌∷◌, ◌++◌, map, ℕ, zero, suc, ◌+◌, ◌-◌, ◌≤◌, ◌<◌, min, eqb, ltb, length, get_or, take, drop}
+use Rattle.std.specs.Prelude.{◌≡◌, refl, Bool, true, false, ◌&&◌, List, [], ◌∷◌, ◌++◌, map, ℕ, zero, suc, ◌+◌, ◌-◌, ◌≤◌, ◌<◌, min, eqb, ltb, length, get_or}
 use Rattle.std.proofs.Common.{sym, ap, ◌∙◌, not-suc-le-zero, le_of_suc-le-suc, arith, get_or-append-add, ltb-true, ltb-false, eqb-true, le-ltb, lt-ltb}
 use Rattle.std.proofs.lemmas.Bool.{false≢true}
 use Rattle.std.proofs.Math.ListN.{get_or-append}
-use Rattle.octets.specs.Pick.{pick, ◌and◌}
+use Rattle.octets.specs.Pick.{pick}
 use Rattle.octets.specs.laws.Pick.{and_both}
 use Rattle.octets.specs.Lists.{every}
-use Rattle.names.specs.Packing.{Packs, row, lookup, find, agree, packing_compute}
+use Rattle.names.specs.Packing.{Packs, lookup, find, agree, packing_compute}
 use Rattle.names.specs.Table.{place_of}
 use Rattle.names.specs.laws.Packing.{by_packs}
 use Rattle.schema.specs.Properties.{property_table, property_names, unrecognised_property}

@@ -4,8 +4,7 @@
 --     calprops .. emailprop     how often each property stands
 --     component_lists   the properties that may stand in a component;   stands_listed: a property in a component
 --     occurrence_lists  the lists in the order of the table's columns;   list_listed: of a number
-use Rattle.std.specs.Prelude.{Bool, true, false, List, [], ◌∷◌, map, ℕ, get_or}
-use Rattle.std.proofs.Math.Option.{Option, none, some}
+use Rattle.std.specs.Prelude.{Bool, true, false, List, [], ◌∷◌, map, ℕ, get_or, None, Some}
 use Rattle.octets.specs.Ascii.{ascii}
 use Rattle.octets.specs.Append.{◌⊕◌}
 use Rattle.octets.specs.Words.{is_one_of, row_of}
@@ -122,19 +121,19 @@ row_listed w = read_or unlisted (row_of (λ r. r.name) w listed_rows)
 
 -- property-x
 abbrev once : List ℕ → Occurrence
-once p = record { property = p; least = 1; most = some 1 }
+once p = record { property = p; least = 1; most = Some 1 }
 
 -- property-x?
 abbrev optional : List ℕ → Occurrence
-optional p = record { property = p; least = 0; most = some 1 }
+optional p = record { property = p; least = 0; most = Some 1 }
 
 -- property-x*
 abbrev any_times : List ℕ → Occurrence
-any_times p = record { property = p; least = 0; most = none }
+any_times p = record { property = p; least = 0; most = None }
 
 -- property-x+
 abbrev some⁺ : List ℕ → Occurrence
-some⁺ p = record { property = p; least = 1; most = none }
+some⁺ p = record { property = p; least = 1; most = None }
 
 -- type-calprops, line 399
 abbrev calprops : List Occurrence
@@ -335,7 +334,7 @@ component_lists =
 
 -- an unrecognised component: every listed property, any number of times
 abbrev pub free_list : ListRow
-free_list = record { name = []; occurrences = map (λ w. record { property = w; least = 0; most = none }) names_listed }
+free_list = record { name = []; occurrences = map (λ w. record { property = w; least = 0; most = None }) names_listed }
 
 unfoldable pub stands_listed : List ℕ → List ℕ → Bool
 stands_listed c w = is_one_of w (map (λ o. o.property) (read_or free_list (row_of (λ r. r.name) c component_lists)).occurrences)

@@ -2,13 +2,12 @@
 --     parameter_set_lem  the set of the number is the row's
 --     words_place, parameter_words_place     the same of names
 --     event_place ..       a name by its number
---     stored, set_yes, set_no, word_none, nth_read           for code
+--     stored, set_yes, set_no, word_none, word_missing     for code;   set_there, parameter_set_there: a property, a parameter that has a number of a set has a set
 --     word_yes, word_no    what the answer of a reader of words says
-use Rattle.std.specs.Prelude.{◌≡◌, Bool, true, false, List, [], ◌∷◌, ℕ, zero, suc, ◌+◌, ◌-◌, ◌≤◌, ◌<◌, eqb, leb, ltb, length, get_or, take, drop}
+use Rattle.std.specs.Prelude.{◌≡◌, Bool, true, false, List, [], ◌∷◌, ℕ, zero, suc, ◌+◌, ◌-◌, ◌≤◌, ◌<◌, eqb, leb, ltb, length, get_or, take, drop, Option, None, Some, is_some}
 use Rattle.std.proofs.Math.Path.{refl, sym}
-use Rattle.std.proofs.Common.{ap, ◌∙◌, not-suc-le-zero, le_of_suc-le-suc, arith, lt-ltb, le-ltb, ltb-true, ltb-false, leb-true, eqb-true}
+use Rattle.std.proofs.Common.{ap, ◌∙◌, not-suc-le-zero, le_of_suc-le-suc, lt-ltb, le-ltb, leb-true, eqb-true}
 use Rattle.std.proofs.lemmas.Bool.{false≢true}
-use Rattle.std.proofs.Math.Option.{Option, none, some}
 use Rattle.std.proofs.Math.ListN.{get_or-map}
 use Rattle.octets.specs.Ascii.{ascii}
 use Rattle.octets.specs.Pick.{pick, ◌and◌}
@@ -26,10 +25,8 @@ use Rattle.schema.specs.Properties.{WordsRow, property_names, words_table, statu
 use Rattle.schema.specs.laws.Numbers.{parameter_place}
 use Rattle.schema.specs.Arrays.{each_from}
 use Rattle.schema.specs.laws.Cells.{below_passes}
-use Rattle.schema.specs.Sets.{word_sets, word_bytes, set_starts, set_sizes, status_set, property_set, words_at, parameter_words_at, parameter_set_numbers, parameter_set, is_word_of, word_among, word_in}
+use Rattle.schema.specs.Sets.{word_sets, word_bytes, set_starts, set_sizes, status_set, property_set, set_at, set_of, words_at, parameter_words_at, parameter_set_numbers, parameter_set, is_word_of, word_among, word_in}
 use Rattle.schema.specs.Property as property
-use Rattle.schema.specs.declared.WordRead.{WordRead}
-use Rattle.schema.specs.declared.WordRead.TheVariants.{At, NoWord}
 
 -- ---- names by their numbers
 
@@ -95,24 +92,24 @@ module _ (p : List ℕ) where
 -- ---- sets by their numbers
 
 abbrev words_of : Option WordsRow → Option (List (List ℕ))
-words_of o = and_then o (λ r. some r.words)
+words_of o = and_then o (λ r. Some r.words)
 
 -- a row more in front of a table
-step : (a : Bool) (r : WordsRow) (o : Option WordsRow) (i n : ℕ) → nth word_sets i ≡ some r.words → words_of o ≡ nth word_sets n → words_of (pick a (some r) o) ≡ nth word_sets (pick a i n)
+step : (a : Bool) (r : WordsRow) (o : Option WordsRow) (i : ℕ) (n : Option ℕ) → nth word_sets i ≡ Some r.words → words_of o ≡ set_of n → words_of (pick a (Some r) o) ≡ set_of (pick a (Some i) n)
 unfolding pick and_then
 step true r o i n e f = sym e
 step false r o i n e f = f
 
-choose : (m n : ℕ) {o₁ o₂ : Option (List (List ℕ))} (a : Bool) → o₁ ≡ nth word_sets m → o₂ ≡ nth word_sets n → pick a o₁ o₂ ≡ nth word_sets (pick a m n)
+choose : (m n : Option ℕ) {o₁ o₂ : Option (List (List ℕ))} (a : Bool) → o₁ ≡ set_of m → o₂ ≡ set_of n → pick a o₁ o₂ ≡ set_of (pick a m n)
 unfolding pick
 choose m n true f g = f
 choose m n false f g = g
 
 -- the same where there is a set for the rest
 abbrev or_else : Option WordsRow → Option (List (List ℕ))
-or_else o = some (read_or elsewhere o).words
+or_else o = Some (read_or elsewhere o).words
 
-step_else : (a : Bool) (r : WordsRow) (o : Option WordsRow) (i n : ℕ) → nth word_sets i ≡ some r.words → or_else o ≡ nth word_sets n → or_else (pick a (some r) o) ≡ nth word_sets (pick a i n)
+step_else : (a : Bool) (r : WordsRow) (o : Option WordsRow) (i n : ℕ) → nth word_sets i ≡ Some r.words → or_else o ≡ nth word_sets n → or_else (pick a (Some r) o) ≡ nth word_sets (pick a i n)
 unfolding pick read_or
 step_else true r o i n e f = sym e
 step_else false r o i n e f = f
@@ -123,34 +120,47 @@ unfolding row_of and_then read_or nth
 of_status c = step_else _ _ _ 5 _ refl (step_else _ _ _ 6 _ refl (step_else _ _ _ 7 16 refl refl))
 
 of_property : (p : List ℕ) → words_of (row_of (λ r. r.name) p words_table) ≡
-    nth word_sets (pick (same p (ascii "CALSCALE")) 0 (pick (same p (ascii "VERSION")) 1 (pick (same p (ascii "CLASS")) 2 (pick (same p (ascii "TRANSP")) 3 (pick (same p (ascii "ACTION")) 4 17)))))
+    set_of (pick (same p (ascii "CALSCALE")) (Some 0) (pick (same p (ascii "VERSION")) (Some 1) (pick (same p (ascii "CLASS")) (Some 2) (pick (same p (ascii "TRANSP")) (Some 3) (pick (same p (ascii "ACTION")) (Some 4) None)))))
 unfolding row_of and_then nth
-of_property p = step _ _ _ 0 _ refl (step _ _ _ 1 _ refl (step _ _ _ 2 _ refl (step _ _ _ 3 _ refl (step _ _ _ 4 17 refl refl))))
+of_property p = step _ _ _ 0 _ refl (step _ _ _ 1 _ refl (step _ _ _ 2 _ refl (step _ _ _ 3 _ refl (step _ _ _ 4 None refl refl))))
 
 pub words_place : (c p : List ℕ) → property_words c p ≡ words_at (place_of c component_names) (place_of p property_names)
-unfolding property_words
-words_place c p = rw (status_place p) (choose (status_set (place_of c component_names)) (property_set (place_of p property_names)) (eqb (place_of p property_names) property.STATUS)
+unfolding property_words and_then
+words_place c p = rw (status_place p) (choose (Some (status_set (place_of c component_names))) (property_set (place_of p property_names)) (eqb (place_of p property_names) property.STATUS)
     (of_status c ∙ rw (event_place c, todo_place c, journal_place c))
     (of_property p ∙ rw (calscale_place p, version_place p, class_place p, transp_place p, action_place p)))
 
 pub parameter_words_place : (w : List ℕ) → parameter_words w ≡ parameter_words_at (place_of w parameter_names)
 parameter_words_place w = ap (λ (r : ParameterRow). r.words) (parameter_place w)
 
-pub parameter_set_lem : (q : ℕ) → nth word_sets (parameter_set q) ≡ parameter_words_at q
-unfolding nth
-parameter_set_lem q = sym (get_or-map (nth word_sets) parameter_set_numbers q 17) ∙ get_or-map (λ r. r.words) parameter_table q unrecognised_parameter
+pub parameter_set_lem : (q : ℕ) → set_of (parameter_set q) ≡ parameter_words_at q
+unfolding nth and_then
+parameter_set_lem q = sym (get_or-map set_of parameter_set_numbers q None) ∙ get_or-map (λ r. r.words) parameter_table q unrecognised_parameter
 
 -- ---- for code
 
-pub nth_read : {A : Type 0} (l : List A) (n : ℕ) → ltb n (length l) ≡ is_read (nth l n)
-unfolding nth is_read
-nth_read [] n = le-ltb n 0 (omega arith)
-nth_read (a ∷ l) zero = lt-ltb 0 (suc (length l)) (omega arith)
-nth_read (a ∷ l) (suc n) = below_both n (length l) (ltb n (length l)) refl ∙ nth_read l n
-  where
-    below_both : (n m : ℕ) (t : Bool) → ltb n m ≡ t → ltb (suc n) (suc m) ≡ ltb n m
-    below_both n m true e = lt-ltb (suc n) (suc m) (omega (arith, ltb-true n m e)) ∙ sym e
-    below_both n m false e = le-ltb (suc n) (suc m) (omega (arith, ltb-false n m e)) ∙ sym e
+there : (a : Bool) (i : ℕ) (n : Option ℕ) → is_read (nth word_sets i) ≡ true → is_some n ≡ is_read (set_of n) → is_some (pick a (Some i) n) ≡ is_read (set_of (pick a (Some i) n))
+unfolding pick and_then
+there true i n e f = sym e
+there false i n e f = f
+
+property_set_there : (p : ℕ) → is_some (property_set p) ≡ is_read (set_of (property_set p))
+unfolding nth and_then is_read
+property_set_there p = there _ 0 _ refl (there _ 1 _ refl (there _ 2 _ refl (there _ 3 _ refl (there _ 4 None refl refl))))
+
+status_set_there : (a b c : Bool) → is_read (nth word_sets (pick a 5 (pick b 6 (pick c 7 16)))) ≡ true
+unfolding nth is_read pick
+status_set_there true b c = refl
+status_set_there false true c = refl
+status_set_there false false true = refl
+status_set_there false false false = refl
+
+pub set_there : (k p : ℕ) → is_some (set_at k p) ≡ is_read (words_at k p)
+set_there k p = there (eqb p property.STATUS) (status_set k) (property_set p) (status_set_there (eqb k 1) (eqb k 2) (eqb k 3)) (property_set_there p)
+
+pub parameter_set_there : (q : ℕ) → is_some (parameter_set q) ≡ is_read (parameter_words_at q)
+unfolding nth and_then is_read
+parameter_set_there q = sym (get_or-map is_some parameter_set_numbers q None) ∙ get_or-map (λ n. is_read (set_of n)) parameter_set_numbers q None ∙ ap is_read (parameter_set_lem q)
 
 -- a set as the code has it: its words, how many they are, where they stand
 unfoldable pub same_words : List (List ℕ) → List (List ℕ) → Bool
@@ -194,50 +204,55 @@ stored n h =
     let c = and_both (leb (get_or set_starts n 0) (get_or set_starts (n + 1) 0)) _ b.1 in
     record { words = words_are _ _ a.0; size = eqb-true _ _ b.0; rises = leb-true _ _ c.0; within = leb-true _ _ c.1 }
 
-nth-some : {A : Type 0} (l : List A) (d : A) (n : ℕ) → n < length l → nth l n ≡ some (get_or l n d)
+nth-some : {A : Type 0} (l : List A) (d : A) (n : ℕ) → n < length l → nth l n ≡ Some (get_or l n d)
 unfolding nth
 nth-some [] d n h = absurd (not-suc-le-zero h)
 nth-some (a ∷ l) d zero h = refl
 nth-some (a ∷ l) d (suc n) h = nth-some l d n (le_of_suc-le-suc h)
 
 -- a word found at the place i among those of the set n, or at no place of it
-module _ (w : List ℕ) {n i : ℕ} (h : n < 17)
+module _ (w : List ℕ) {m : Option ℕ} {n i : ℕ} (g : m ≡ Some n) (h : n < 17)
     (e : i ≡ place_of w (names_in (take (get_or set_starts (n + 1) 0 - get_or set_starts n 0) (drop (get_or set_starts n 0) word_bytes)))) where
-  set_place : word_in (nth word_sets n) w ≡ word_among (get_or set_sizes n 0) i
-  set_place = let s = stored n h in rw (nth-some word_sets [] n h, s.size, e, s.words)
+  set_place : word_in (set_of m) w ≡ word_among (get_or set_sizes n 0) i
+  unfolding and_then
+  set_place = let s = stored n h in rw (g, nth-some word_sets [] n h, s.size, e, s.words)
 
-  pub set_yes : i < get_or set_sizes n 0 → At i ≡ word_in (nth word_sets n) w
+  pub set_yes : i < get_or set_sizes n 0 → Some i ≡ word_in (set_of m) w
   unfolding pick
   set_yes l = sym (set_place ∙ rw (lt-ltb i (get_or set_sizes n 0) l))
 
-  pub set_no : get_or set_sizes n 0 ≤ i → NoWord ≡ word_in (nth word_sets n) w
+  pub set_no : get_or set_sizes n 0 ≤ i → None ≡ word_in (set_of m) w
   unfolding pick
   set_no l = sym (set_place ∙ rw (le-ltb i (get_or set_sizes n 0) l))
 
-pub word_none : (sets : List (List (List ℕ))) (n : ℕ) (w : List ℕ) → length sets ≤ n → NoWord ≡ word_in (nth sets n) w
+none_past : (sets : List (List (List ℕ))) (n : ℕ) (w : List ℕ) → length sets ≤ n → None ≡ word_in (nth sets n) w
 unfolding nth
-word_none [] n w h = refl
-word_none (x ∷ sets) zero w h = absurd (not-suc-le-zero h)
-word_none (x ∷ sets) (suc n) w h = word_none sets n w (le_of_suc-le-suc h)
+none_past [] n w h = refl
+none_past (x ∷ sets) zero w h = absurd (not-suc-le-zero h)
+none_past (x ∷ sets) (suc n) w h = none_past sets n w (le_of_suc-le-suc h)
+
+pub word_none : (w : List ℕ) {m : Option ℕ} {n : ℕ} → m ≡ Some n → 17 ≤ n → None ≡ word_in (set_of m) w
+unfolding and_then
+word_none w {m} {n} g h = rw g (none_past word_sets n w h)
+
+pub word_missing : (w : List ℕ) {m : Option ℕ} → m ≡ None → None ≡ word_in (set_of m) w
+unfolding and_then
+word_missing w g = rw g
 
 -- ---- the answer
 
-abbrev pub is_word : WordRead → Bool
-is_word (At i) = true
-is_word NoWord = false
-
-among_is : (t : Bool) (i : ℕ) → is_word (pick t (At i) NoWord) ≡ t
+among_is : (t : Bool) (i : ℕ) → is_some (pick t (Some i) None) ≡ t
 unfolding pick
 among_is true i = refl
 among_is false i = refl
 
-word_is : (o : Option (List (List ℕ))) (w : List ℕ) → is_word (word_in o w) ≡ is_word_of o w
-word_is none w = refl
-word_is (some ws) w = among_is (ltb (place_of w ws) (length ws)) (place_of w ws) ∙ sym (one_of_place w ws)
+word_is : (o : Option (List (List ℕ))) (w : List ℕ) → is_some (word_in o w) ≡ is_word_of o w
+word_is None w = refl
+word_is (Some ws) w = among_is (ltb (place_of w ws) (length ws)) (place_of w ws) ∙ sym (one_of_place w ws)
 
-module _ (o : Option (List (List ℕ))) (w : List ℕ) {r : WordRead} (e : r ≡ word_in o w) where
-  pub word_yes : {i : ℕ} → r ≡ At i → true ≡ is_word_of o w
+module _ (o : Option (List (List ℕ))) (w : List ℕ) {r : Option ℕ} (e : r ≡ word_in o w) where
+  pub word_yes : {i : ℕ} → r ≡ Some i → true ≡ is_word_of o w
   word_yes h = sym (sym (word_is o w) ∙ rw (← e, h))
 
-  pub word_no : r ≡ NoWord → false ≡ is_word_of o w
+  pub word_no : r ≡ None → false ≡ is_word_of o w
   word_no h = sym (sym (word_is o w) ∙ rw (← e, h))

@@ -4,7 +4,6 @@
 use Rattle.std.specs.Prelude.{◌≡◌, refl, Bool, true, false, List, [], ◌∷◌, map, ℕ, ◌<◌, eqb}
 use Rattle.std.proofs.Common.{sym, ap, ◌∙◌, eqb-true}
 use Rattle.std.proofs.lemmas.Bool.{false≢true}
-use Rattle.std.proofs.Math.Option.{Option}
 use Rattle.octets.specs.Ascii.{ascii}
 use Rattle.octets.specs.Pick.{pick, ◌and◌}
 use Rattle.octets.specs.laws.Pick.{and_both}
@@ -23,7 +22,7 @@ use Rattle.schema.specs.Components.{Occurrence, component_names, list_in, may_st
 use Rattle.schema.specs.Counts.{absent, occurrence_in}
 use Rattle.schema.specs.Arrays.{each_from}
 use Rattle.schema.specs.Computing.{schema_compute}
-use Rattle.schema.specs.laws.Rows.{unrecognised_property_lem, unrecognised_permits, list_names_known}
+use Rattle.schema.specs.laws.Rows.{unrecognised_property_lem, list_names_known}
 use Rattle.schema.specs.laws.Cells.{at_passes, below_passes}
 use Rattle.schema.specs.laws.Columns.{even, even_is, stand_outside, stand_unknown}
 use Rattle.schema.specs.laws.Unknown.{unknown_stands}

@@ -2,10 +2,9 @@
 --     complete_same           the tallies of known properties and the word of ACTION decide;   complete_plain: outside a VALARM the tallies alone
 --     complete_unrecognised   an unrecognised property changes nothing
 --     complete_stands         every known property of a complete component may stand in it
-use Rattle.std.specs.Prelude.{◌≡◌, refl, Bool, true, false, List, [], ◌∷◌, map, ℕ, ◌≤◌}
+use Rattle.std.specs.Prelude.{◌≡◌, refl, Bool, true, false, List, [], ◌∷◌, map, ℕ, ◌≤◌, Option, None, Some}
 use Rattle.std.proofs.Common.{sym, ap, ◌∙◌, arith, leb-true}
 use Rattle.std.proofs.lemmas.Bool.{false≢true}
-use Rattle.std.proofs.Math.Option.{Option, none, some}
 use Rattle.octets.specs.Ascii.{ascii}
 use Rattle.octets.specs.Pick.{pick, ◌and◌, ◌or◌}
 use Rattle.octets.specs.laws.Pick.{or_left, or_right, and_both}
@@ -39,8 +38,8 @@ each_often_same (w ∷ ws) os ps qs h = rw (h w (here w), each_often_same ws os 
 
 often_same : (o : Option (List Occurrence)) (ps qs : List Property) → ((w : List ℕ) → is_known_property w ≡ true → tally w ps ≡ tally w qs) → often_for o ps ≡ often_for o qs
 unfolding is_known_property
-often_same none ps qs h = refl
-often_same (some os) ps qs h = each_often_same property_names os ps qs h
+often_same None ps qs h = refl
+often_same (Some os) ps qs h = each_often_same property_names os ps qs h
 
 pairs_same : (c : List ℕ) (sub : Around) (ps qs : List Property) → ((w : List ℕ) → is_known_property w ≡ true → tally w ps ≡ tally w qs) → pairs_of c ps sub ≡ pairs_of c qs sub
 unfolding octets_compute is_known_property
@@ -52,7 +51,7 @@ unfolding complete
 complete_same c sub ps qs h a = rw (a, often_same (list_for c qs) ps qs h, pairs_same c sub ps qs h)
 
 -- ACTION only matters in a VALARM
-plain_list : (c : List ℕ) (ps : List Property) → is_alarm c ≡ false → list_for c ps ≡ some (occurrences_of c)
+plain_list : (c : List ℕ) (ps : List Property) → is_alarm c ≡ false → list_for c ps ≡ Some (occurrences_of c)
 unfolding pick
 plain_list c ps a = rw a
 
@@ -61,8 +60,8 @@ pub complete_plain : (c : List ℕ) (sub : Around) (ps qs : List Property) → i
 unfolding complete
 complete_plain c sub ps qs a h =
     ap (λ (o : Option (List Occurrence)). often_for o ps and pairs_of c ps sub) (plain_list c ps a)
-    ∙ ap (λ (b : Bool). b and pairs_of c ps sub) (often_same (some (occurrences_of c)) ps qs h)
-    ∙ ap (λ (b : Bool). often_for (some (occurrences_of c)) qs and b) (pairs_same c sub ps qs h)
+    ∙ ap (λ (b : Bool). b and pairs_of c ps sub) (often_same (Some (occurrences_of c)) ps qs h)
+    ∙ ap (λ (b : Bool). often_for (Some (occurrences_of c)) qs and b) (pairs_same c sub ps qs h)
     ∙ ap (λ (o : Option (List Occurrence)). often_for o qs and pairs_of c qs sub) (sym (plain_list c qs a))
 
 -- ---- unrecognised properties
@@ -106,22 +105,22 @@ alarm_rows : every (λ r. every is_alarm_name (names_in r.occurrences)) alarm_ta
 unfolding octets_compute standing is_alarm_name
 alarm_rows = refl
 
-alarm_names : (a : Option (List ℕ)) (os : List Occurrence) → and_then a alarm_occurrences ≡ some os → every is_alarm_name (names_in os) ≡ true
+alarm_names : (a : Option (List ℕ)) (os : List Occurrence) → and_then a alarm_occurrences ≡ Some os → every is_alarm_name (names_in os) ≡ true
 unfolding and_then alarm_occurrences
-alarm_names none os e = none-some e
-alarm_names (some a) os e = go (row_of (λ r. r.action) a alarm_table) refl e
+alarm_names None os e = none-some e
+alarm_names (Some a) os e = go (row_of (λ r. r.action) a alarm_table) refl e
   where
-    go : (o : Option AlarmRow) → row_of (λ r. r.action) a alarm_table ≡ o → and_then o (λ r. some r.occurrences) ≡ some os → every is_alarm_name (names_in os) ≡ true
-    go none f k = none-some k
-    go (some r) f k =
+    go : (o : Option AlarmRow) → row_of (λ r. r.action) a alarm_table ≡ o → and_then o (λ r. Some r.occurrences) ≡ Some os → every is_alarm_name (names_in os) ≡ true
+    go None f k = none-some k
+    go (Some r) f k =
         let q : r.occurrences ≡ os = cc in
         rw q at (row_passes (λ r. r.action) a (λ r. every is_alarm_name (names_in r.occurrences)) alarm_table r alarm_rows f)
 
-listed_stands : (c : List ℕ) (ps : List Property) (os : List Occurrence) (w : List ℕ) → list_for c ps ≡ some os → is_one_of w (names_in os) ≡ true → may_stand c w ≡ true
+listed_stands : (c : List ℕ) (ps : List Property) (os : List Occurrence) (w : List ℕ) → list_for c ps ≡ Some os → is_one_of w (names_in os) ≡ true → may_stand c w ≡ true
 unfolding may_stand pick is_alarm_name
 listed_stands c ps os w e h = go (is_alarm c) e
   where
-    go : (b : Bool) → pick b (and_then (action_of ps) alarm_occurrences) (some (occurrences_of c)) ≡ some os →
+    go : (b : Bool) → pick b (and_then (action_of ps) alarm_occurrences) (Some (occurrences_of c)) ≡ Some os →
         is_one_of w (names_in (pick b (audioprop ⊕ dispprop ⊕ emailprop) (occurrences_of c))) ≡ true
     go true k = word_passes is_alarm_name (names_in os) w (alarm_names (action_of ps) os k) h
     go false k = let q : occurrences_of c ≡ os = cc in rw q h
@@ -130,10 +129,10 @@ pub complete_stands : (c : List ℕ) (sub : Around) (ps : List Property) (w : Li
 unfolding complete is_known_property
 complete_stands c sub ps w h k n = go (list_for c ps) refl (and_both _ _ h).0
   where
-    none_listed : (os : List Occurrence) → list_for c ps ≡ some os → (b : Bool) → is_one_of w (names_in os) ≡ b → b ≡ false
+    none_listed : (os : List Occurrence) → list_for c ps ≡ Some os → (b : Bool) → is_one_of w (names_in os) ≡ b → b ≡ false
     none_listed os e true f = absurd (false≢true (sym n ∙ listed_stands c ps os w e f))
     none_listed os e false f = refl
 
     go : (o : Option (List Occurrence)) → list_for c ps ≡ o → often_for o ps ≡ true → tally w ps ≡ 0
-    go none e a = absurd (false≢true a)
-    go (some os) e a = often_absent os ps w (none_listed os e _ refl) (often_at_lem property_names os ps w a k)
+    go None e a = absurd (false≢true a)
+    go (Some os) e a = often_absent os ps w (none_listed os e _ refl) (often_at_lem property_names os ps w a k)

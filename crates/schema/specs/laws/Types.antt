@@ -1,9 +1,8 @@
 -- Laws of what specs/Types.antt defines.
 --     type_name_read_back, type_named_is, type_named_listed   a type is named by its name, and by no other
-use Rattle.std.specs.Prelude.{◌≡◌, refl, Bool, true, false, List, [], ◌∷◌, ℕ, get_or}
+use Rattle.std.specs.Prelude.{◌≡◌, refl, Bool, true, false, List, [], ◌∷◌, ℕ, get_or, Some}
 use Rattle.std.proofs.Common.{sym, ap, ◌∙◌, eq-eqb, eqb-true}
 use Rattle.std.proofs.lemmas.Bool.{false≢true}
-use Rattle.std.proofs.Math.Option.{some}
 use Rattle.octets.specs.Pick.{◌or◌}
 use Rattle.octets.specs.laws.Pick.{and_both}
 use Rattle.octets.specs.Scan.{all_of}
@@ -41,7 +40,7 @@ pub same_type_true : (t u : ValueType) → same_type t u ≡ true → t ≡ u
 unfolding same_type
 same_type_true t u h = sym (place_type t) ∙ ap (λ (n : ℕ). get_or value_types n UNKNOWN) (eqb-true (type_place t) (type_place u) h) ∙ place_type u
 
-pub type_name_read_back : (t : ValueType) → is_type_of t value_types ≡ true → type_named (type_name t) ≡ some t
+pub type_name_read_back : (t : ValueType) → is_type_of t value_types ≡ true → type_named (type_name t) ≡ Some t
 unfolding octets_compute type_named is_type_of same_type
 type_name_read_back BINARY h = refl
 type_name_read_back BOOLEAN h = refl
@@ -59,11 +58,11 @@ type_name_read_back URI h = refl
 type_name_read_back UTC-OFFSET h = refl
 type_name_read_back UNKNOWN h = absurd (false≢true h)
 
-pub type_named_is : (w : List ℕ) (t : ValueType) → type_named w ≡ some t → type_name t ≡ w
+pub type_named_is : (w : List ℕ) (t : ValueType) → type_named w ≡ Some t → type_name t ≡ w
 unfolding type_named
 type_named_is w t h = row_named type_name w value_types t h
 
-pub type_named_listed : (w : List ℕ) (t : ValueType) → type_named w ≡ some t → is_type_of t value_types ≡ true
+pub type_named_listed : (w : List ℕ) (t : ValueType) → type_named w ≡ Some t → is_type_of t value_types ≡ true
 unfolding octets_compute type_named is_type_of same_type
 type_named_listed w t h = row_passes type_name w (λ u. is_type_of u value_types) value_types t refl h
 

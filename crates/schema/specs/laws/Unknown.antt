@@ -2,10 +2,9 @@
 --     unknown_often     however often they stand
 --     unknown_stands    a known property
 --     outside_row       a component that is no row;   contains_some: one that may contain another has subcomponents
-use Rattle.std.specs.Prelude.{◌≡◌, refl, Bool, true, false, not, List, [], ◌∷◌, ℕ, eqb, leb}
+use Rattle.std.specs.Prelude.{◌≡◌, refl, Bool, true, false, List, [], ◌∷◌, ℕ, eqb, leb, Option, None, Some}
 use Rattle.std.proofs.Common.{ap, ◌∙◌, arith, eqb-true, le-leb}
 use Rattle.std.proofs.lemmas.Bool.{false≢true, not-true}
-use Rattle.std.proofs.Math.Option.{Option, none, some}
 use Rattle.octets.specs.Pick.{◌and◌}
 use Rattle.octets.specs.laws.Pick.{and_yes, and_both, or_cases}
 use Rattle.octets.specs.Words.{same, is_one_of, is_empty}
@@ -19,20 +18,20 @@ use Rattle.octets.specs.Computing.{octets_compute}
 use Rattle.calendar.specs.Calendar.{Property}
 use Rattle.schema.specs.Components.{Occurrence, ComponentRow, component_table, component_names, component_row, unknown_component, subcomponents_of, is_known_component, holds_unknown, may_contain, may_stand}
 use Rattle.schema.specs.Properties.{property_names, is_known_property}
-use Rattle.schema.specs.Counts.{tally, occurrence_in, is_at_most, is_often, each_often}
+use Rattle.schema.specs.Counts.{tally, occurrence_in, is_at_most, each_often}
 
 -- ---- how often
 
 abbrev free_by : ℕ → Option ℕ → Bool
-free_by l none = eqb l 0
-free_by l (some m) = false
+free_by l None = eqb l 0
+free_by l (Some m) = false
 
 abbrev is_free : Occurrence → Bool
 is_free o = free_by o.least o.most
 
 free_by_lem : (l : ℕ) (m : Option ℕ) (n : ℕ) → free_by l m ≡ true → (leb l n and is_at_most m n) ≡ true
-free_by_lem l none n h = and_yes _ _ (rw (eqb-true l 0 h) (le-leb 0 n (omega arith))) refl
-free_by_lem l (some m) n h = absurd (false≢true h)
+free_by_lem l None n h = and_yes _ _ (rw (eqb-true l 0 h) (le-leb 0 n (omega arith))) refl
+free_by_lem l (Some m) n h = absurd (false≢true h)
 
 free_each : (ws : List (List ℕ)) (os : List Occurrence) (ps : List Property) → every (λ w. is_free (occurrence_in os w)) ws ≡ true → each_often ws os ps ≡ true
 unfolding each_often

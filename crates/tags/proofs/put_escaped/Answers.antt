@@ -1,35 +1,10 @@
 -- `tags::put_escaped` meets its contract.
-use mathlib.Core.Path.{◌≡◌}
-use Prim.Native.Nat.{◌-◌, ◌*◌}
-use lib.ListN.{length}
-use Rattle.sink.specs.Sink.{Todo}
-use Rattle.sink.specs.laws.Sink.{each}
-use Rattle.source.specs.Source.{rest}
 use Rattle.source.specs.laws.Copying.{copying}
-use Rattle.xml.specs.Escape.{escaped_byte}
 use Rattle.xml.specs.laws.Escape.{escaped-each}
 use Rattle.tags.proofs.put_escaped.Goals as goal
 
-pub loop-t-init : goal.loop-t-init
-loop-t-init c = search copying
-
-pub unit-t-requires : goal.unit-t-requires
-unit-t-requires c = search copying
-
-pub shape_of-out-then-u-eq-END : goal.shape_of-out-then-u-eq-END
-shape_of-out-then-u-eq-END c = search copying
-
-pub returns-then-u-eq-END : goal.returns-then-u-eq-END
-returns-then-u-eq-END c = rw escaped-each (search copying)
-
-pub overflow_cast-u : goal.overflow_cast-u
-overflow_cast-u c = search copying
-
-pub put_escaped_byte-o-requires : goal.put_escaped_byte-o-requires
-put_escaped_byte-o-requires c = search copying
-
-pub loop-t-smaller : goal.loop-t-smaller
-loop-t-smaller c = search copying
+pub returns-then-t-eq-END : goal.returns-then-t-eq-END
+returns-then-t-eq-END c = rw escaped-each (search copying)
 
 pub loop-t-preserved : goal.loop-t-preserved
 loop-t-preserved c = search copying

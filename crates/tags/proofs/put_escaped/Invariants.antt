@@ -5,9 +5,7 @@ use lib.ListN.{length}
 use Rattle.sink.specs.Sink.{Todo}
 use Rattle.sink.specs.laws.Sink.{each}
 use Rattle.source.specs.Source.{rest}
-use Rattle.source.specs.laws.Copying.{copying}
 use Rattle.xml.specs.Escape.{escaped_byte}
-use Rattle.xml.specs.laws.Escape.{escaped-each}
 use Rattle.tags.proofs.put_escaped.Given as goal
 
 abbrev pub invariant-loop-t : goal.invariant-loop-t

@@ -2,11 +2,9 @@
 --     line_parts         the values of the parameters of a content line, and its value
 --     property_good      what a line with no fault states
 --     after_byte         what follows a byte of ASCII
-use Rattle.std.specs.Prelude.{◌≡◌, refl, Bool, true, false, not, List, [], ◌∷◌, map, ℕ, ◌+◌, eqb, length}
+use Rattle.std.specs.Prelude.{◌≡◌, refl, Bool, true, false, not, List, [], ◌∷◌, map, ℕ, ◌+◌, eqb, length, Option, None, Some, option_map}
 use Rattle.std.proofs.Common.{sym, ◌∙◌}
 use Rattle.std.proofs.lemmas.Bool.{false≢true}
-use Rattle.std.proofs.Math.Option
-use Rattle.std.proofs.Math.Option.{Option, none, some}
 use Rattle.octets.specs.Ascii.{ascii}
 use Rattle.octets.specs.Pick.{pick, ◌and◌, ◌or◌}
 use Rattle.octets.specs.laws.Pick.{and_yes, and_both, or_cases, eqb_passes}
@@ -60,14 +58,14 @@ use Rattle.text.proofs.laws.WrittenLine.{is_good_chars, comma_ascii}
 -- ---- the parts of a line
 
 -- behind characters that show, and on both sides of one
-after_shown : (a b : List ℕ) → all_of is_visible a ≡ true → first_bad (a ⊕ b) ≡ none → first_bad b ≡ none
+after_shown : (a b : List ℕ) → all_of is_visible a ≡ true → first_bad (a ⊕ b) ≡ None → first_bad b ≡ None
 after_shown a b v h = good_shifted b 0 (0 + length a) 0 (sym (bad_append a b 0 (visible_good a v)) ∙ h)
 
-pub after_byte : (c : ℕ) (s : List ℕ) → is_ascii c ≡ true → first_bad (c ∷ s) ≡ none → first_bad s ≡ none
+pub after_byte : (c : ℕ) (s : List ℕ) → is_ascii c ≡ true → first_bad (c ∷ s) ≡ None → first_bad s ≡ None
 after_byte c s a h = good_shifted s 0 (0 + 1) 0 (sym (ascii_first c 0 s a) ∙ h)
 
 -- what follows a value begins with no tail byte
-value_off : (q : Bool) (s r : List ℕ) → tail_at r ≡ false → first_bad (pick q (34 ∷ (s ⊕ 34 ∷ [])) s ⊕ r) ≡ none → (first_bad s ≡ none) × (first_bad r ≡ none)
+value_off : (q : Bool) (s r : List ℕ) → tail_at r ≡ false → first_bad (pick q (34 ∷ (s ⊕ 34 ∷ [])) s ⊕ r) ≡ None → (first_bad s ≡ None) × (first_bad r ≡ None)
 unfolding pick ◌and◌ ◌or◌ tail_at
 value_off false s r t h = good_split s r t h
 value_off true s r t h =
@@ -80,7 +78,7 @@ unfolding each_after ◌⊕◌ tail_at ◌and◌
 after_tail [] r t = t
 after_tail (v ∷ vs) r t = refl
 
-after_off : (vs : List ParamValue) (r : List ℕ) → tail_at r ≡ false → first_bad (each_after 44 (map write_param_value vs) ⊕ r) ≡ none → (every is_good_chars vs ≡ true) × (first_bad r ≡ none)
+after_off : (vs : List ParamValue) (r : List ℕ) → tail_at r ≡ false → first_bad (each_after 44 (map write_param_value vs) ⊕ r) ≡ None → (every is_good_chars vs ≡ true) × (first_bad r ≡ None)
 unfolding each_after every write_param_value ◌or◌ ◌and◌
 after_off [] r t h = (refl, rw append_empty at h)
 after_off (v ∷ vs) r t h =
@@ -89,7 +87,7 @@ after_off (v ∷ vs) r t h =
     let c = after_off vs r t b.1 in
     (and_yes _ _ (good_well_formed v.chars b.0) c.0, c.1)
 
-values_off : (vs : List ParamValue) (r : List ℕ) → tail_at r ≡ false → first_bad (joined_by 44 (map write_param_value vs) ⊕ r) ≡ none → (every is_good_chars vs ≡ true) × (first_bad r ≡ none)
+values_off : (vs : List ParamValue) (r : List ℕ) → tail_at r ≡ false → first_bad (joined_by 44 (map write_param_value vs) ⊕ r) ≡ None → (every is_good_chars vs ≡ true) × (first_bad r ≡ None)
 unfolding joined_by every write_param_value
 values_off [] r t h = (refl, rw append_empty at h)
 values_off (v ∷ vs) r t h =
@@ -97,7 +95,7 @@ values_off (v ∷ vs) r t h =
     let c = after_off vs r t b.1 in
     (and_yes _ _ (good_well_formed v.chars b.0) c.0, c.1)
 
-parameter_off : (p : RawParameter) (r : List ℕ) → is_name p.name ≡ true → tail_at r ≡ false → first_bad (write_parameter p ⊕ r) ≡ none → (every is_good_chars p.values ≡ true) × (first_bad r ≡ none)
+parameter_off : (p : RawParameter) (r : List ℕ) → is_name p.name ≡ true → tail_at r ≡ false → first_bad (write_parameter p ⊕ r) ≡ None → (every is_good_chars p.values ≡ true) × (first_bad r ≡ None)
 unfolding write_parameter ◌or◌ ◌and◌
 parameter_off p r n t h =
     let a = after_byte 59 _ refl (rw (append_cons, append_regroup, append_cons) at h) in
@@ -112,7 +110,7 @@ parameters_tail (p ∷ ps) r t = refl
 abbrev is_good_raw : RawParameter → Bool
 is_good_raw r = every is_good_chars r.values
 
-parameters_off : (ps : List RawParameter) (r : List ℕ) → every is_raw_parameter ps ≡ true → tail_at r ≡ false → first_bad (joined (map write_parameter ps) ⊕ r) ≡ none → (every is_good_raw ps ≡ true) × (first_bad r ≡ none)
+parameters_off : (ps : List RawParameter) (r : List ℕ) → every is_raw_parameter ps ≡ true → tail_at r ≡ false → first_bad (joined (map write_parameter ps) ⊕ r) ≡ None → (every is_good_raw ps ≡ true) × (first_bad r ≡ None)
 unfolding joined every is_raw_parameter
 parameters_off [] r n t h = (refl, rw append_empty at h)
 parameters_off (p ∷ ps) r n t h =
@@ -121,7 +119,7 @@ parameters_off (p ∷ ps) r n t h =
     let c = parameters_off ps r d.1 t b.1 in
     (and_yes _ _ b.0 c.0, c.1)
 
-pub line_parts : (l : ContentLine) → is_content_line l ≡ true → first_bad (write_content_line l) ≡ none → (every is_good_raw l.parameters ≡ true) × (first_bad l.value ≡ none)
+pub line_parts : (l : ContentLine) → is_content_line l ≡ true → first_bad (write_content_line l) ≡ None → (every is_good_raw l.parameters ≡ true) × (first_bad l.value ≡ None)
 unfolding is_content_line write_content_line tail_at ◌and◌ ◌or◌
 line_parts l q h =
     let a = and_both (is_name l.name) _ q in
@@ -131,7 +129,7 @@ line_parts l q h =
 
 -- ---- one value
 
-one_piece : (s : List ℕ) → first_bad s ≡ none → every well_formed (s ∷ []) ≡ true
+one_piece : (s : List ℕ) → first_bad s ≡ None → every well_formed (s ∷ []) ≡ true
 unfolding every
 one_piece s h = and_yes _ _ (good_well_formed s h) refl
 
@@ -139,16 +137,16 @@ nothing_good : (v : Value) → free_in v ≡ [] → is_permitted v ≡ true
 unfolding every
 nothing_good v e = rw e
 
-text_read_good : (s x : List ℕ) → first_bad s ≡ none → read_text s ≡ some x → every well_formed (x ∷ []) ≡ true
+text_read_good : (s x : List ℕ) → first_bad s ≡ None → read_text s ≡ Some x → every well_formed (x ∷ []) ≡ true
 text_read_good s x h e =
     let a = and_then-some (split_text 0 s) alone x e in
     rw (← (alone_is a.0 x a.2)) (split_good 0 s a.0 h a.1)
 
-typed_good : (t : ValueType) (s : List ℕ) (v : Value) → first_bad s ≡ none → read_value ical t s ≡ some v → is_permitted v ≡ true
+typed_good : (t : ValueType) (s : List ℕ) (v : Value) → first_bad s ≡ None → read_value ical t s ≡ Some v → is_permitted v ≡ true
 unfolding read_value
 typed_good t s v n h =
     let a = value_accepted ical t s v h in
-    free_or_shown (λ v. is_typed v ≡ true → type_of v ≡ t → read_value ical t s ≡ some v → is_permitted v ≡ true)
+    free_or_shown (λ v. is_typed v ≡ true → type_of v ≡ t → read_value ical t s ≡ Some v → is_permitted v ≡ true)
     (λ v e k y u h. nothing_good v e)
     (λ x y u h. text_read_good s x n (text_made (read_text s) x (rw (← u) at h)))
     (λ x k y u h. rw (← (unknown_is t s x u h)) (one_piece s n))
@@ -165,26 +163,26 @@ word_good s h = one_piece s (visible_good s (all_weaker is_word_char is_visible 
 
 -- ---- parameters
 
-word_read_good : (n : List ℕ) (o : Option (List (List ℕ))) (t : ValueType) (s : List ℕ) (v : Value) → parameter_words n ≡ o → first_bad s ≡ none → read_word o t s ≡ some v → is_permitted v ≡ true
+word_read_good : (n : List ℕ) (o : Option (List (List ℕ))) (t : ValueType) (s : List ℕ) (v : Value) → parameter_words n ≡ o → first_bad s ≡ None → read_word o t s ≡ Some v → is_permitted v ≡ true
 unfolding pick
-word_read_good n none t s v e q h = go (same_type t TEXT) h
+word_read_good n None t s v e q h = go (same_type t TEXT) h
   where
-    other : (b : Bool) → pick b (some (unknown s)) (read_value ical t s) ≡ some v → is_permitted v ≡ true
+    other : (b : Bool) → pick b (Some (unknown s)) (read_value ical t s) ≡ Some v → is_permitted v ≡ true
     other true k = let u : unknown s ≡ v = cc in rw (← u) (one_piece s q)
     other false k = typed_good t s v q k
 
-    go : (b : Bool) → pick b (some (text s)) (pick (same_type t UNKNOWN) (some (unknown s)) (read_value ical t s)) ≡ some v → is_permitted v ≡ true
+    go : (b : Bool) → pick b (Some (text s)) (pick (same_type t UNKNOWN) (Some (unknown s)) (read_value ical t s)) ≡ Some v → is_permitted v ≡ true
     go true k = let u : text s ≡ v = cc in rw (← u) (one_piece s q)
     go false k = other (same_type t UNKNOWN) k
-word_read_good n (some words) t s v e q h =
+word_read_good n (Some words) t s v e q h =
     let p = provided-some (is_one_of (upper s) words) (text (upper s)) v h in
     rw (← p.1) (word_good (upper s) (and_both _ _ (and_both _ _ (parameter_words_plain n words (upper s) e p.0)).1).0)
 
-param_value_good : (n : List ℕ) (r : ParamValue) (v : Value) → is_good_chars r ≡ true → read_param_value n r ≡ some v → is_permitted v ≡ true
+param_value_good : (n : List ℕ) (r : ParamValue) (v : Value) → is_good_chars r ≡ true → read_param_value n r ≡ Some v → is_permitted v ≡ true
 unfolding read_param_value pick
 param_value_good n r v q h = go (not r.quoted and is_quoted_parameter n) h
   where
-    go : (b : Bool) → pick b none (read_word (parameter_words n) (parameter_type n) r.chars) ≡ some v → is_permitted v ≡ true
+    go : (b : Bool) → pick b None (read_word (parameter_words n) (parameter_type n) r.chars) ≡ Some v → is_permitted v ≡ true
     go true k = none-some k
     go false k = word_read_good n (parameter_words n) (parameter_type n) r.chars v refl (well_formed_good r.chars q) k
 
@@ -195,7 +193,7 @@ is_both r = carries_name r and is_good_raw r
 abbrev pub is_good_parameter : Parameter → Bool
 is_good_parameter p = is_carried_name p.name and every is_permitted p.values
 
-parameter_good : (r : RawParameter) (p : Parameter) → is_both r ≡ true → read_parameter r ≡ some p → is_good_parameter p ≡ true
+parameter_good : (r : RawParameter) (p : Parameter) → is_both r ≡ true → read_parameter r ≡ Some p → is_good_parameter p ≡ true
 parameter_good r p q h =
     let d = parameter_read r p h in
     let a = and_both (is_carried_name r.name) _ q in
@@ -210,21 +208,21 @@ both_raw (r ∷ rs) h k =
     let e = every_both is_good_raw r rs k in
     and_yes _ _ (and_yes _ _ d.0 e.0) (both_raw rs d.1 e.1)
 
-parameters_good_lem : (rs : List RawParameter) (ps : List Parameter) → every is_both rs ≡ true → read_parameters rs ≡ some ps → every is_good_parameter ps ≡ true
+parameters_good_lem : (rs : List RawParameter) (ps : List Parameter) → every is_both rs ≡ true → read_parameters rs ≡ Some ps → every is_good_parameter ps ≡ true
 parameters_good_lem rs ps q h = each_accepted_of read_parameter is_good_parameter is_both parameter_good (own_parameters rs) ps (own_every is_both rs q) h
 
 -- ---- the values of a property
 
-one_good : (o : Option Value) (vs : List Value) → ((v : Value) → o ≡ some v → is_permitted v ≡ true) → one_value o ≡ some vs → every is_permitted vs ≡ true
+one_good : (o : Option Value) (vs : List Value) → ((v : Value) → o ≡ Some v → is_permitted v ≡ true) → one_value o ≡ Some vs → every is_permitted vs ≡ true
 unfolding every
-one_good none vs f h = none-some h
-one_good (some v) vs f h = let e : v ∷ [] ≡ vs = cc in rw (← e) (and_yes _ _ (f v refl) refl)
+one_good None vs f h = none-some h
+one_good (Some v) vs f h = let e : v ∷ [] ≡ vs = cc in rw (← e) (and_yes _ _ (f v refl) refl)
 
-geo_good : (s : List ℕ) (v : Value) → read_geo s ≡ some v → is_permitted v ≡ true
+geo_good : (s : List ℕ) (v : Value) → read_geo s ≡ Some v → is_permitted v ≡ true
 unfolding every
 geo_good s v h = rw (geo_accepted s v h).both
 
-status_good : (s : List ℕ) (v : Value) → first_bad s ≡ none → read_request_status s ≡ some v → is_permitted v ≡ true
+status_good : (s : List ℕ) (v : Value) → first_bad s ≡ None → read_request_status s ≡ Some v → is_permitted v ≡ true
 status_good s v n h =
     let a = and_then-some (split_text 59 s) status_of v h in
     rw (status_parts a.0 v a.2) (split_good 59 s a.0 n a.1)
@@ -234,30 +232,30 @@ unfolding every
 texts_good [] h = refl
 texts_good (t ∷ ts) h = let e = every_both well_formed t ts h in and_yes _ _ (and_yes _ _ e.0 refl) (texts_good ts e.1)
 
-listed_good : (t : ValueType) (s : List ℕ) (vs : List Value) → first_bad s ≡ none → read_listed t s ≡ some vs → every is_permitted vs ≡ true
+listed_good : (t : ValueType) (s : List ℕ) (vs : List Value) → first_bad s ≡ None → read_listed t s ≡ Some vs → every is_permitted vs ≡ true
 unfolding pick
 listed_good t s vs n h = go (same_type t TEXT) h
   where
-    texts : (o : Option (List (List ℕ))) → read_texts s ≡ o → Option.map (map text) o ≡ some vs → every is_permitted vs ≡ true
-    texts none e k = none-some k
-    texts (some ts) e k = let q : map text ts ≡ vs = cc in rw (← q) (texts_good ts (split_good 44 s ts n e))
+    texts : (o : Option (List (List ℕ))) → read_texts s ≡ o → option_map (map text) o ≡ Some vs → every is_permitted vs ≡ true
+    texts None e k = none-some k
+    texts (Some ts) e k = let q : map text ts ≡ vs = cc in rw (← q) (texts_good ts (split_good 44 s ts n e))
 
-    go : (b : Bool) → pick b (Option.map (map text) (read_texts s)) (read_each (read_value ical t) (cut_at 44 s)) ≡ some vs → every is_permitted vs ≡ true
+    go : (b : Bool) → pick b (option_map (map text) (read_texts s)) (read_each (read_value ical t) (cut_at 44 s)) ≡ Some vs → every is_permitted vs ≡ true
     go true k = texts (read_texts s) refl k
     go false k = each_accepted_of (read_value ical t) is_permitted well_formed (λ r v w e. typed_good t r v (well_formed_good r w) e) (cut_at 44 s) vs (cut_good 44 s comma_ascii n) k
 
-chosen_good : (k n : List ℕ) (o : Option (List (List ℕ))) (t : ValueType) (s : List ℕ) (v : Value) → property_words k n ≡ o → first_bad s ≡ none → read_chosen o t s ≡ some v → is_permitted v ≡ true
-chosen_good k n none t s v e c h = typed_good t s v c h
-chosen_good k n (some words) t s v e c h =
+chosen_good : (k n : List ℕ) (o : Option (List (List ℕ))) (t : ValueType) (s : List ℕ) (v : Value) → property_words k n ≡ o → first_bad s ≡ None → read_chosen o t s ≡ Some v → is_permitted v ≡ true
+chosen_good k n None t s v e c h = typed_good t s v c h
+chosen_good k n (Some words) t s v e c h =
     let p = provided-some (is_one_of (upper s) words) (text (upper s)) v h in
     rw (← p.1) (word_good (upper s) (and_both _ _ (and_both _ _ (property_words_plain k n words (upper s) e p.0)).1).0)
 
-values_good : (k n : List ℕ) (t : ValueType) (s : List ℕ) (vs : List Value) → first_bad s ≡ none → read_values k n t s ≡ some vs → every is_permitted vs ≡ true
+values_good : (k n : List ℕ) (t : ValueType) (s : List ℕ) (vs : List Value) → first_bad s ≡ None → read_values k n t s ≡ Some vs → every is_permitted vs ≡ true
 unfolding read_values pick
 values_good k n t s vs c h =
     go (is_type_of t (permitted_types n)) (same n (ascii "GEO")) (same n (ascii "REQUEST-STATUS")) (is_listed_property n) h
   where
-    go : (b g r l : Bool) → pick b (pick g (one_value (read_geo s)) (pick r (one_value (read_request_status s)) (pick l (read_listed t s) (one_value (read_chosen (property_words k n) t s))))) none ≡ some vs →
+    go : (b g r l : Bool) → pick b (pick g (one_value (read_geo s)) (pick r (one_value (read_request_status s)) (pick l (read_listed t s) (one_value (read_chosen (property_words k n) t s))))) None ≡ Some vs →
         every is_permitted vs ≡ true
     go false g r l h = none-some h
     go true true r l h = one_good (read_geo s) vs (geo_good s) h
@@ -273,8 +271,8 @@ value_decoded ed v h = good_well_formed _ (decode_good ed v.chars (well_formed_g
 raw_decoded : (ed : Edition) (r : RawParameter) → is_good_raw r ≡ true → is_good_raw (decoded_parameter ed r) ≡ true
 raw_decoded ed r h = every_map is_good_chars (decoded_value ed) r.values ∙ every_weaker is_good_chars (λ v. is_good_chars (decoded_value ed v)) (value_decoded ed) r.values h
 
-pub property_good : (ed : Edition) (k : List ℕ) (l : ContentLine) → is_content_line l ≡ true → first_bad (write_content_line l) ≡ none → every carries_name (decoded_line ed l).parameters ≡ true →
-    property_fault k (decoded_line ed l) ≡ none → (every is_good_parameter (property_of k (decoded_line ed l)).parameters ≡ true) × (every is_permitted (property_of k (decoded_line ed l)).values ≡ true)
+pub property_good : (ed : Edition) (k : List ℕ) (l : ContentLine) → is_content_line l ≡ true → first_bad (write_content_line l) ≡ None → every carries_name (decoded_line ed l).parameters ≡ true →
+    property_fault k (decoded_line ed l) ≡ None → (every is_good_parameter (property_of k (decoded_line ed l)).parameters ≡ true) × (every is_permitted (property_of k (decoded_line ed l)).values ≡ true)
 unfolding property_of read_or
 property_good ed k l q g c h =
     let a = line_parts l q g in

@@ -1,13 +1,11 @@
 -- What a content line with no fault states can be written as a content line again: its names are names, and its free characters are such that a line can have.
 --     line_accepted, line_property    what a line with no fault states is such a property
 --     alone_is, status_parts, text_made, unknown_is    what a value was read from
-use Rattle.std.specs.Prelude.{◌≡◌, Bool, not, List, [], ◌∷◌, map, ℕ}
+use Rattle.std.specs.Prelude.{◌≡◌, Bool, not, List, [], ◌∷◌, map, ℕ, Option, None, Some, option_map}
 use Rattle.std.proofs.Math.Path.{refl}
 use Rattle.std.proofs.Common.{sym, ◌∙◌}
 use Rattle.std.proofs.Math.Bool.{true, false}
 use Rattle.std.proofs.lemmas.Bool.{false≢true, not-true}
-use Rattle.std.proofs.Math.Option
-use Rattle.std.proofs.Math.Option.{Option, none, some}
 use Rattle.octets.specs.Pick.{pick, ◌and◌, ◌or◌}
 use Rattle.octets.specs.laws.Pick.{pick_second, and_yes, and_both}
 use Rattle.octets.specs.Scan.{all_of}
@@ -69,35 +67,35 @@ word_whole : (s : List ℕ) → all_of is_word_char s ≡ true → is_value_text
 unfolding ◌or◌ ◌and◌
 word_whole s h = none_one 13 s (all_without is_word_char 13 refl s h)
 
-pub alone_is : (ps : List (List ℕ)) (s : List ℕ) → alone ps ≡ some s → ps ≡ s ∷ []
+pub alone_is : (ps : List (List ℕ)) (s : List ℕ) → alone ps ≡ Some s → ps ≡ s ∷ []
 alone_is [] s h = none-some h
 alone_is (p ∷ []) s h = let q : p ≡ s = cc in rw q
 alone_is (p ∷ q ∷ ps) s h = none-some h
 
-text_free : (s x : List ℕ) → holds 13 s ≡ false → read_text s ≡ some x → none_holds 13 (x ∷ []) ≡ true
+text_free : (s x : List ℕ) → holds 13 s ≡ false → read_text s ≡ Some x → none_holds 13 (x ∷ []) ≡ true
 text_free s x h e =
     let a = and_then-some (split_text 0 s) alone x e in
     rw (← (alone_is a.0 x a.2)) (split_without 13 0 s a.0 refl h a.1)
 
 -- what a constructor was put to
-pub text_made : (o : Option (List ℕ)) (x : List ℕ) → Option.map text o ≡ some (text x) → o ≡ some x
-text_made none x h = none-some h
-text_made (some y) x h = let q : y ≡ x = cc in rw q
+pub text_made : (o : Option (List ℕ)) (x : List ℕ) → option_map text o ≡ Some (text x) → o ≡ Some x
+text_made None x h = none-some h
+text_made (Some y) x h = let q : y ≡ x = cc in rw q
 
-unknown_made : (o : Option (List ℕ)) (x : List ℕ) → Option.map unknown o ≡ some (unknown x) → o ≡ some x
-unknown_made none x h = none-some h
-unknown_made (some y) x h = let q : y ≡ x = cc in rw q
+unknown_made : (o : Option (List ℕ)) (x : List ℕ) → option_map unknown o ≡ Some (unknown x) → o ≡ Some x
+unknown_made None x h = none-some h
+unknown_made (Some y) x h = let q : y ≡ x = cc in rw q
 
 -- a raw value is what stands there
-pub unknown_is : (t : ValueType) (s x : List ℕ) → UNKNOWN ≡ t → read_value ical t s ≡ some (unknown x) → s ≡ x
+pub unknown_is : (t : ValueType) (s x : List ℕ) → UNKNOWN ≡ t → read_value ical t s ≡ Some (unknown x) → s ≡ x
 unfolding read_value
 unknown_is t s x u h = unknown_kept s x (unknown_made (read_unknown s) x (rw (← u) at h))
 
-typed_free : (t : ValueType) (s : List ℕ) (v : Value) → holds 13 s ≡ false → read_value ical t s ≡ some v → is_value_text v ≡ true
+typed_free : (t : ValueType) (s : List ℕ) (v : Value) → holds 13 s ≡ false → read_value ical t s ≡ Some v → is_value_text v ≡ true
 unfolding read_value
 typed_free t s v n h =
     let a = value_accepted ical t s v h in
-    free_or_shown (λ v. is_typed v ≡ true → type_of v ≡ t → read_value ical t s ≡ some v → is_value_text v ≡ true)
+    free_or_shown (λ v. is_typed v ≡ true → type_of v ≡ t → read_value ical t s ≡ Some v → is_value_text v ≡ true)
     (λ v e k y u h. nothing_value v e)
     (λ x y u h. text_free s x n (text_made (read_text s) x (rw (← u) at h)))
     (λ x k y u h. rw (← (unknown_is t s x u h)) (none_one 13 s n))
@@ -130,23 +128,23 @@ value_qsafe r h = go r.quoted h
 
 -- ---- values
 
-one_free : (o : Option Value) (vs : List Value) → ((v : Value) → o ≡ some v → is_value_text v ≡ true) → one_value o ≡ some vs → every is_value_text vs ≡ true
+one_free : (o : Option Value) (vs : List Value) → ((v : Value) → o ≡ Some v → is_value_text v ≡ true) → one_value o ≡ Some vs → every is_value_text vs ≡ true
 unfolding every
-one_free none vs f h = none-some h
-one_free (some v) vs f h = let e : v ∷ [] ≡ vs = cc in rw (← e) (and_yes _ _ (f v refl) refl)
+one_free None vs f h = none-some h
+one_free (Some v) vs f h = let e : v ∷ [] ≡ vs = cc in rw (← e) (and_yes _ _ (f v refl) refl)
 
-geo_free : (s : List ℕ) (v : Value) → read_geo s ≡ some v → is_value_text v ≡ true
+geo_free : (s : List ℕ) (v : Value) → read_geo s ≡ Some v → is_value_text v ≡ true
 unfolding none_holds
 geo_free s v h = rw (geo_accepted s v h).both
 
-pub status_parts : (ps : List (List ℕ)) (v : Value) → status_of ps ≡ some v → free_in v ≡ ps
+pub status_parts : (ps : List (List ℕ)) (v : Value) → status_of ps ≡ Some v → free_in v ≡ ps
 status_parts [] v h = none-some h
 status_parts (c ∷ []) v h = none-some h
-status_parts (c ∷ d ∷ []) v h = let q : request_status c d none ≡ v = cc in rw (← q)
-status_parts (c ∷ d ∷ x ∷ []) v h = let q : request_status c d (some x) ≡ v = cc in rw (← q)
+status_parts (c ∷ d ∷ []) v h = let q : request_status c d None ≡ v = cc in rw (← q)
+status_parts (c ∷ d ∷ x ∷ []) v h = let q : request_status c d (Some x) ≡ v = cc in rw (← q)
 status_parts (c ∷ d ∷ x ∷ y ∷ ps) v h = none-some h
 
-status_free : (s : List ℕ) (v : Value) → holds 13 s ≡ false → read_request_status s ≡ some v → is_value_text v ≡ true
+status_free : (s : List ℕ) (v : Value) → holds 13 s ≡ false → read_request_status s ≡ Some v → is_value_text v ≡ true
 status_free s v n h =
     let a = and_then-some (split_text 59 s) status_of v h in
     rw (status_parts a.0 v a.2) (split_without 13 59 s a.0 refl n a.1)
@@ -165,31 +163,31 @@ unfolding every is_whole
 pieces_whole [] h = refl
 pieces_whole (p ∷ ps) h = let e = none_split 13 p ps h in and_yes _ _ (rw e.0) (pieces_whole ps e.1)
 
-listed_free : (t : ValueType) (s : List ℕ) (vs : List Value) → holds 13 s ≡ false → read_listed t s ≡ some vs → every is_value_text vs ≡ true
+listed_free : (t : ValueType) (s : List ℕ) (vs : List Value) → holds 13 s ≡ false → read_listed t s ≡ Some vs → every is_value_text vs ≡ true
 unfolding pick is_whole
 listed_free t s vs n h = go (same_type t TEXT) h
   where
-    texts : (o : Option (List (List ℕ))) → read_texts s ≡ o → Option.map (map text) o ≡ some vs → every is_value_text vs ≡ true
-    texts none e k = none-some k
-    texts (some ts) e k = let q : map text ts ≡ vs = cc in rw (← q) (texts_free ts (split_without 13 44 s ts refl n e))
+    texts : (o : Option (List (List ℕ))) → read_texts s ≡ o → option_map (map text) o ≡ Some vs → every is_value_text vs ≡ true
+    texts None e k = none-some k
+    texts (Some ts) e k = let q : map text ts ≡ vs = cc in rw (← q) (texts_free ts (split_without 13 44 s ts refl n e))
 
-    go : (b : Bool) → pick b (Option.map (map text) (read_texts s)) (read_each (read_value ical t) (cut_at 44 s)) ≡ some vs → every is_value_text vs ≡ true
+    go : (b : Bool) → pick b (option_map (map text) (read_texts s)) (read_each (read_value ical t) (cut_at 44 s)) ≡ Some vs → every is_value_text vs ≡ true
     go true k = texts (read_texts s) refl k
     go false k =
         each_accepted_of (read_value ical t) is_value_text is_whole (λ r v w e. typed_free t r v (not-true _ w) e) (cut_at 44 s) vs (pieces_whole (cut_at 44 s) (cut_without 13 44 s n)) k
 
-chosen_free : (k n : List ℕ) (o : Option (List (List ℕ))) (t : ValueType) (s : List ℕ) (v : Value) → property_words k n ≡ o → holds 13 s ≡ false → read_chosen o t s ≡ some v → is_value_text v ≡ true
-chosen_free k n none t s v e c h = typed_free t s v c h
-chosen_free k n (some words) t s v e c h =
+chosen_free : (k n : List ℕ) (o : Option (List (List ℕ))) (t : ValueType) (s : List ℕ) (v : Value) → property_words k n ≡ o → holds 13 s ≡ false → read_chosen o t s ≡ Some v → is_value_text v ≡ true
+chosen_free k n None t s v e c h = typed_free t s v c h
+chosen_free k n (Some words) t s v e c h =
     let p = provided-some (is_one_of (upper s) words) (text (upper s)) v h in
     rw (← p.1) (word_whole (upper s) (and_both _ _ (and_both _ _ (property_words_plain k n words (upper s) e p.0)).1).0)
 
-values_free : (k n : List ℕ) (t : ValueType) (s : List ℕ) (vs : List Value) → holds 13 s ≡ false → read_values k n t s ≡ some vs → every is_value_text vs ≡ true
+values_free : (k n : List ℕ) (t : ValueType) (s : List ℕ) (vs : List Value) → holds 13 s ≡ false → read_values k n t s ≡ Some vs → every is_value_text vs ≡ true
 unfolding read_values pick
 values_free k n t s vs c h =
     go (is_type_of t (permitted_types n)) (same n (ascii "GEO")) (same n (ascii "REQUEST-STATUS")) (is_listed_property n) h
   where
-    go : (b g r l : Bool) → pick b (pick g (one_value (read_geo s)) (pick r (one_value (read_request_status s)) (pick l (read_listed t s) (one_value (read_chosen (property_words k n) t s))))) none ≡ some vs →
+    go : (b g r l : Bool) → pick b (pick g (one_value (read_geo s)) (pick r (one_value (read_request_status s)) (pick l (read_listed t s) (one_value (read_chosen (property_words k n) t s))))) None ≡ Some vs →
         every is_value_text vs ≡ true
     go false g r l h = none-some h
     go true true r l h = one_free (read_geo s) vs (geo_free s) h
@@ -220,36 +218,36 @@ module _ (ed : Edition) where
 
   -- ---- parameters
 
-  other_free : (t : ValueType) (s : List ℕ) (v : Value) → same_type t TEXT ≡ false → all_of (is_spelled ed) s ≡ true → read_value ical t s ≡ some v → is_parameter_text ed v ≡ true
+  other_free : (t : ValueType) (s : List ℕ) (v : Value) → same_type t TEXT ≡ false → all_of (is_spelled ed) s ≡ true → read_value ical t s ≡ Some v → is_parameter_text ed v ≡ true
   other_free t s v n q h =
       let a = value_accepted ical t s v h in
-      free_or_shown (λ v. is_typed v ≡ true → type_of v ≡ t → read_value ical t s ≡ some v → is_parameter_text ed v ≡ true)
+      free_or_shown (λ v. is_typed v ≡ true → type_of v ≡ t → read_value ical t s ≡ Some v → is_parameter_text ed v ≡ true)
       (λ v e k y u h. nothing_free ed v e)
       (λ x y u h. absurd (false≢true (sym n ∙ rw (← u) (same_type_self TEXT))))
       (λ x k y u h. rw (← (unknown_is t s x u h)) (unknown_free ed s q))
       (λ c d x y u h. absurd (false≢true y))
       v a.0 a.1 a.2 h
 
-  word_read_free : (n : List ℕ) (o : Option (List (List ℕ))) (t : ValueType) (s : List ℕ) (v : Value) → parameter_words n ≡ o → all_of (is_spelled ed) s ≡ true → read_word o t s ≡ some v → is_parameter_text ed v ≡ true
+  word_read_free : (n : List ℕ) (o : Option (List (List ℕ))) (t : ValueType) (s : List ℕ) (v : Value) → parameter_words n ≡ o → all_of (is_spelled ed) s ≡ true → read_word o t s ≡ Some v → is_parameter_text ed v ≡ true
   unfolding pick
-  word_read_free n none t s v e q h = go (same_type t TEXT) refl h
+  word_read_free n None t s v e q h = go (same_type t TEXT) refl h
     where
-      other : same_type t TEXT ≡ false → (b : Bool) → pick b (some (unknown s)) (read_value ical t s) ≡ some v → is_parameter_text ed v ≡ true
+      other : same_type t TEXT ≡ false → (b : Bool) → pick b (Some (unknown s)) (read_value ical t s) ≡ Some v → is_parameter_text ed v ≡ true
       other e true k = let u : unknown s ≡ v = cc in rw (← u) (unknown_free ed s q)
       other e false k = other_free t s v e q k
 
-      go : (b : Bool) → same_type t TEXT ≡ b → pick b (some (text s)) (pick (same_type t UNKNOWN) (some (unknown s)) (read_value ical t s)) ≡ some v → is_parameter_text ed v ≡ true
+      go : (b : Bool) → same_type t TEXT ≡ b → pick b (Some (text s)) (pick (same_type t UNKNOWN) (Some (unknown s)) (read_value ical t s)) ≡ Some v → is_parameter_text ed v ≡ true
       go true e k = let u : text s ≡ v = cc in rw (← u) (spelled_free ed s q)
       go false e k = other e (same_type t UNKNOWN) k
-  word_read_free n (some words) t s v e q h =
+  word_read_free n (Some words) t s v e q h =
       let p = provided-some (is_one_of (upper s) words) (text (upper s)) v h in
       rw (← p.1) (word_free ed (upper s) (and_both _ _ (and_both _ _ (parameter_words_plain n words (upper s) e p.0)).1).0)
 
-  param_value_free : (n : List ℕ) (r : ParamValue) (v : Value) → is_stated_value r ≡ true → read_param_value n r ≡ some v → is_parameter_text ed v ≡ true
+  param_value_free : (n : List ℕ) (r : ParamValue) (v : Value) → is_stated_value r ≡ true → read_param_value n r ≡ Some v → is_parameter_text ed v ≡ true
   unfolding read_param_value pick
   param_value_free n r v q h = go (not r.quoted and is_quoted_parameter n) h
     where
-      go : (b : Bool) → pick b none (read_word (parameter_words n) (parameter_type n) r.chars) ≡ some v → is_parameter_text ed v ≡ true
+      go : (b : Bool) → pick b None (read_word (parameter_words n) (parameter_type n) r.chars) ≡ Some v → is_parameter_text ed v ≡ true
       go true k = none-some k
       go false k = word_read_free n (parameter_words n) (parameter_type n) r.chars v refl q k
 
@@ -257,19 +255,19 @@ module _ (ed : Edition) where
   abbrev pub is_line_parameter : Parameter → Bool
   is_line_parameter p = is_name p.name and every (is_parameter_text ed) p.values
 
-  parameter_line : (r : RawParameter) (p : Parameter) → is_stated r ≡ true → read_parameter r ≡ some p → is_line_parameter p ≡ true
+  parameter_line : (r : RawParameter) (p : Parameter) → is_stated r ≡ true → read_parameter r ≡ Some p → is_line_parameter p ≡ true
   parameter_line r p q h =
       let d = parameter_read r p h in
       let a = and_both (is_name r.name) _ q in
       and_yes _ _ (rw d.named (name_upper r.name a.0))
       (each_accepted_of (read_param_value (upper r.name)) (is_parameter_text ed) is_stated_value (λ v x k e. param_value_free (upper r.name) v x k e) r.values p.values (pick_second _ _ a.1).1 d.each)
 
-  parameters_line : (rs : List RawParameter) (ps : List Parameter) → every is_stated rs ≡ true → read_parameters rs ≡ some ps → every is_line_parameter ps ≡ true
+  parameters_line : (rs : List RawParameter) (ps : List Parameter) → every is_stated rs ≡ true → read_parameters rs ≡ Some ps → every is_line_parameter ps ≡ true
   parameters_line rs ps q h = each_accepted_of read_parameter is_line_parameter is_stated parameter_line (own_parameters rs) ps (own_every is_stated rs q) h
 
   -- ---- the line
 
-  pub line_accepted : (k : List ℕ) (l : ContentLine) → is_content_line l ≡ true → property_fault k (decoded_line ed l) ≡ none →
+  pub line_accepted : (k : List ℕ) (l : ContentLine) → is_content_line l ≡ true → property_fault k (decoded_line ed l) ≡ None →
       (is_name (upper l.name) ≡ true) × (every is_line_parameter (property_of k (decoded_line ed l)).parameters ≡ true) × (every is_value_text (property_of k (decoded_line ed l)).values ≡ true)
   unfolding is_content_line property_of read_or pick ◌or◌
   line_accepted k l q h =
@@ -287,6 +285,6 @@ module _ (ed : Edition) where
   raw_has_value r h = rw (pick_second (is_empty r.values) _ (and_both _ _ h).1).0
 
   -- what such a line states is a property
-  pub line_property : (k : List ℕ) (l : ContentLine) → is_content_line l ≡ true → property_fault k (decoded_line ed l) ≡ none → is_property k (property_of k (decoded_line ed l)) ≡ true
+  pub line_property : (k : List ℕ) (l : ContentLine) → is_content_line l ≡ true → property_fault k (decoded_line ed l) ≡ None → is_property k (property_of k (decoded_line ed l)) ≡ true
   unfolding is_content_line
   line_property k l q h = property_accepted k (decoded_line ed l) (every_weaker is_stated has_value raw_has_value _ (raws_stated l.parameters (and_both _ _ (and_both _ _ q).1).0)) h

@@ -2,11 +2,9 @@
 --     parameters_read_lem  parameters that are good are those of a property
 --     both_pass            a line without a fault has parameters without one, and its value is read
 --     property_accepted    what such a line states is a property
-use Rattle.std.specs.Prelude.{◌≡◌, refl, Bool, true, false, not, List, [], ◌∷◌, map, ℕ}
+use Rattle.std.specs.Prelude.{◌≡◌, refl, Bool, true, false, not, List, [], ◌∷◌, map, ℕ, Option, None, Some, option_map}
 use Rattle.std.proofs.Common.{sym, ap, ◌∙◌}
 use Rattle.std.proofs.lemmas.Bool.{false≢true}
-use Rattle.std.proofs.Math.Option
-use Rattle.std.proofs.Math.Option.{Option, none, some}
 use Rattle.octets.specs.Ascii.{ascii}
 use Rattle.octets.specs.Pick.{pick, ◌and◌, ◌or◌}
 use Rattle.octets.specs.laws.Pick.{pick_second, and_yes, and_both, or_no, or_neither, or_left, or_right, or_cases}
@@ -45,23 +43,23 @@ name_of p = p.name
 -- what a parameter is read from
 pub record Read (r : RawParameter) (p : Parameter) : Type 0 where
   pub named : p.name ≡ upper r.name
-  pub each : read_each (read_param_value (upper r.name)) r.values ≡ some p.values
+  pub each : read_each (read_param_value (upper r.name)) r.values ≡ Some p.values
 
-pub parameter_read : (r : RawParameter) (p : Parameter) → read_parameter r ≡ some p → Read r p
+pub parameter_read : (r : RawParameter) (p : Parameter) → read_parameter r ≡ Some p → Read r p
 unfolding read_parameter pick
 parameter_read r p h = go (is_listed_parameter (raw_name r) or is_single r.values) (read_each (read_param_value (raw_name r)) r.values) refl h
   where
     named : List Value → Parameter
     named vs = record { name = raw_name r; values = vs }
 
-    go : (b : Bool) (o : Option (List Value)) → read_each (read_param_value (raw_name r)) r.values ≡ o → pick b (Option.map named o) none ≡ some p → Read r p
+    go : (b : Bool) (o : Option (List Value)) → read_each (read_param_value (raw_name r)) r.values ≡ o → pick b (option_map named o) None ≡ Some p → Read r p
     go false o e k = none-some k
-    go true none e k = none-some k
-    go true (some vs) e k =
+    go true None e k = none-some k
+    go true (Some vs) e k =
         let q : named vs ≡ p = cc in
-        record { named = ap name_of (sym q); each = e ∙ ap (λ (x : Parameter). some x.values) q }
+        record { named = ap name_of (sym q); each = e ∙ ap (λ (x : Parameter). Some x.values) q }
 
-names_read : (rs : List RawParameter) (ps : List Parameter) → read_each read_parameter rs ≡ some ps → map name_of ps ≡ map raw_name rs
+names_read : (rs : List RawParameter) (ps : List Parameter) → read_each read_parameter rs ≡ Some ps → map name_of ps ≡ map raw_name rs
 unfolding read_each
 names_read [] ps h = let q : [] ≡ ps = cc in rw (← q)
 names_read (r ∷ rs) ps h =
@@ -91,22 +89,22 @@ own_distinct (r ∷ rs) h = let e = pick_second _ _ h in go (is_value_parameter 
 
 -- ---- ENCODING=BASE64
 
-encoding_words : (n : List ℕ) → same n (ascii "ENCODING") ≡ true → parameter_words n ≡ some encodings
+encoding_words : (n : List ℕ) → same n (ascii "ENCODING") ≡ true → parameter_words n ≡ Some encodings
 unfolding parameter_row octets_compute
 encoding_words n h = rw (same_true n (ascii "ENCODING") h)
 
 -- its value is the word that stands there, in capitals
-encoding_read : (n : List ℕ) (v : ParamValue) (x : Value) → same n (ascii "ENCODING") ≡ true → read_param_value n v ≡ some x → text (upper v.chars) ≡ x
+encoding_read : (n : List ℕ) (v : ParamValue) (x : Value) → same n (ascii "ENCODING") ≡ true → read_param_value n v ≡ Some x → text (upper v.chars) ≡ x
 unfolding read_param_value pick
 encoding_read n v x e h = go (not v.quoted and is_quoted_parameter n) (parameter_words n) (encoding_words n e) h
   where
-    go : (b : Bool) (o : Option (List (List ℕ))) → o ≡ some encodings → pick b none (read_word o (parameter_type n) v.chars) ≡ some x → text (upper v.chars) ≡ x
+    go : (b : Bool) (o : Option (List (List ℕ))) → o ≡ Some encodings → pick b None (read_word o (parameter_type n) v.chars) ≡ Some x → text (upper v.chars) ≡ x
     go true o w k = none-some k
-    go false none w k = none-some w
-    go false (some words) w k = (provided-some (is_one_of (upper v.chars) words) (text (upper v.chars)) x k).1
+    go false None w k = none-some w
+    go false (Some words) w k = (provided-some (is_one_of (upper v.chars) words) (text (upper v.chars)) x k).1
 
 base64_values : (n : List ℕ) (rs : List ParamValue) (vs : List Value) → same n (ascii "ENCODING") ≡ true → is_word (ascii "BASE64") rs ≡ true →
-    read_each (read_param_value n) rs ≡ some vs → every (λ v. is_word_in (ascii "BASE64" ∷ []) (text_in v)) vs ≡ true
+    read_each (read_param_value n) rs ≡ Some vs → every (λ v. is_word_in (ascii "BASE64" ∷ []) (text_in v)) vs ≡ true
 unfolding read_each every is_one_of ◌and◌
 base64_values n [] vs e w h = absurd (false≢true w)
 base64_values n (r ∷ rs) vs e w h =
@@ -137,7 +135,7 @@ any_own (r ∷ rs) h = go (is_value_parameter r) refl (any_own rs)
     go true e ih = or_cases (is_raw_base64_encoding r) _ h (λ k. absurd (false≢true (sym (base64_own r k) ∙ e))) ih
     go false e ih = or_cases (is_raw_base64_encoding r) _ h (λ k. or_left _ _ k) (λ k. or_right _ _ (ih k))
 
-any_read : (rs : List RawParameter) (ps : List Parameter) → read_each read_parameter rs ≡ some ps → any_one is_raw_base64_encoding rs ≡ true → any_one is_base64_encoding ps ≡ true
+any_read : (rs : List RawParameter) (ps : List Parameter) → read_each read_parameter rs ≡ Some ps → any_one is_raw_base64_encoding rs ≡ true → any_one is_base64_encoding ps ≡ true
 unfolding read_each any_one
 any_read [] ps h b = absurd (false≢true b)
 any_read (r ∷ rs) ps h b =
@@ -151,7 +149,7 @@ any_read (r ∷ rs) ps h b =
 every_named : (p : List ℕ → Bool) (rs : List RawParameter) (ps : List Parameter) → map name_of ps ≡ map raw_name rs → every (λ r. p (raw_name r)) rs ≡ true → every (λ q. p (name_of q)) ps ≡ true
 every_named p rs ps e h = sym (every_map p name_of ps) ∙ ap (every p) e ∙ every_map p raw_name rs ∙ h
 
-pub parameters_read_lem : (n : List ℕ) (t : ValueType) (rs : List RawParameter) (ps : List Parameter) → every has_value rs ≡ true → parameters_good n t rs ≡ true → read_parameters rs ≡ some ps →
+pub parameters_read_lem : (n : List ℕ) (t : ValueType) (rs : List RawParameter) (ps : List Parameter) → every has_value rs ≡ true → parameters_good n t rs ≡ true → read_parameters rs ≡ Some ps →
     are_parameters n t ps ≡ true
 unfolding parameters_good are_parameters
 parameters_read_lem n t rs ps v g h =
@@ -171,21 +169,21 @@ pub record NoFault (k : List ℕ) (l : ContentLine) : Type 0 where
   pub type : ValueType
   pub parameters : List Parameter
   pub values : List Value
-  pub stated : stated_type (upper l.name) l.parameters ≡ some type
+  pub stated : stated_type (upper l.name) l.parameters ≡ Some type
   pub good : parameters_good (upper l.name) type l.parameters ≡ true
-  pub parameters_read : read_parameters l.parameters ≡ some parameters
-  pub values_read : read_values k (upper l.name) type l.value ≡ some values
+  pub parameters_read : read_parameters l.parameters ≡ Some parameters
+  pub values_read : read_values k (upper l.name) type l.value ≡ Some values
 
-some-none : {A X : Type 0} {a : A} → some a ≡ none → X
+some-none : {A X : Type 0} {a : A} → Some a ≡ None → X
 some-none e = none-some (sym e)
 
 -- the two tests that a line passes
-pub both_pass : (o : Option Where) (r : Bool) → line_fault o r ≡ none → (o ≡ none) × (r ≡ true)
-both_pass none true h = (refl, refl)
-both_pass none false h = some-none h
-both_pass (some w) r h = some-none h
+pub both_pass : (o : Option Where) (r : Bool) → line_fault o r ≡ None → (o ≡ None) × (r ≡ true)
+both_pass None true h = (refl, refl)
+both_pass None false h = some-none h
+both_pass (Some w) r h = some-none h
 
-pub no_fault : (k : List ℕ) (l : ContentLine) → property_fault k l ≡ none → NoFault k l
+pub no_fault : (k : List ℕ) (l : ContentLine) → property_fault k l ≡ None → NoFault k l
 unfolding fault_as parameters_good read_or
 no_fault k l h =
     let n = upper l.name in
@@ -197,7 +195,7 @@ no_fault k l h =
     let p = read_some (read_parameters l.parameters) (and_both _ _ (and_both _ _ f.good).1).0 in
     record { type = f.type; parameters = p.0; values = v.0; stated = f.stated; good = f.good; parameters_read = p.1; values_read = v.1 }
 
-pub property_accepted : (k : List ℕ) (l : ContentLine) → every has_value l.parameters ≡ true → property_fault k l ≡ none → is_property k (property_of k l) ≡ true
+pub property_accepted : (k : List ℕ) (l : ContentLine) → every has_value l.parameters ≡ true → property_fault k l ≡ None → is_property k (property_of k l) ≡ true
 unfolding is_property property_of read_or
 property_accepted k l v h =
     let f = no_fault k l h in

@@ -3,12 +3,11 @@
 --     text_tree          an accepted text states all the components of its lines
 --     accepted_valid     an accepted text states a valid calendar
 --     accepted_back      its canonical text states the same, where it is not over the limit
-use Rattle.std.specs.Prelude.{◌≡◌, Bool, true, false, ℕ, zero, suc, ◌+◌, ◌≤◌, eqb, leb, length}
+use Rattle.std.specs.Prelude.{◌≡◌, Bool, true, false, ℕ, zero, suc, ◌+◌, ◌≤◌, eqb, leb, length, Option, None, Some}
 use Rattle.std.proofs.Math.Path.{refl}
 use Rattle.std.proofs.Common.{ap, ◌∙◌, arith}
 use Rattle.std.proofs.lemmas.Bool.{false≢true}
 use mathlib.Core.List.{List, [], ◌∷◌, map}
-use Rattle.std.proofs.Math.Option.{Option, none, some}
 use borrow.Author.Tests.{eqb-true, le-leb}
 use Rattle.octets.specs.Pick.{pick, ◌and◌, ◌or◌}
 use Rattle.octets.specs.laws.Pick.{and_yes, and_both}
@@ -78,7 +77,7 @@ lines_text (a ∷ s) p zero h = go (starts crlf (a ∷ s)) refl h (lines_text s 
         let l = longer_text p a (lines_after s (p + 1) 0) h in
         l.1 ∙ ap (λ (x : List ℕ). a ∷ x) (ih 0 l.0 ∙ behind_none s)
 
-lines_good : (ls : List Line) → none_loose ls ≡ true → first_bad (line_text ls) ≡ none → every is_good_one ls ≡ true
+lines_good : (ls : List Line) → none_loose ls ≡ true → first_bad (line_text ls) ≡ None → every is_good_one ls ≡ true
 unfolding none_loose line_text is_good_one every tail_at ◌and◌ ◌or◌
 lines_good [] n h = refl
 lines_good (loose p ∷ ls) n h = absurd (false≢true n)
@@ -86,7 +85,7 @@ lines_good (whole p l ∷ ls) n h =
     let e = good_split l (13 ∷ 10 ∷ line_text ls) refl h in
     and_yes _ _ (good_well_formed l e.0) (lines_good ls n (after_byte 10 (line_text ls) refl (after_byte 13 (10 ∷ line_text ls) refl e.1)))
 
-pub text_lines_good : (u : List ℕ) → first_bad u ≡ none → none_loose (lines u) ≡ true → every is_good_one (lines u) ≡ true
+pub text_lines_good : (u : List ℕ) → first_bad u ≡ None → none_loose (lines u) ≡ true → every is_good_one (lines u) ≡ true
 text_lines_good u h n = lines_good (lines u) n (rw (lines_text u 0 0 n, behind_none u) h)
 
 -- lines that are not refused are whole
@@ -112,10 +111,10 @@ kept true true s v h = placed-fine s v h
 kept true false s v h = refused_not _ _ h
 kept false b s v h = refused_not _ _ h
 
-both_fine : (o : Option ℕ) (w : Verdict) → (characters o otherwise w) ≡ fine → (o ≡ none) × (w ≡ fine)
+both_fine : (o : Option ℕ) (w : Verdict) → (characters o otherwise w) ≡ fine → (o ≡ None) × (w ≡ fine)
 unfolding ◌otherwise◌
-both_fine none w h = (refl, h)
-both_fine (some p) w h = refused_not _ _ h
+both_fine None w h = (refl, h)
+both_fine (Some p) w h = refused_not _ _ h
 
 module _ (ed : Edition) where
   -- ---- in an edition
@@ -140,7 +139,7 @@ module _ (ed : Edition) where
   -- ---- the text
 
   pub record Accepts (s : List ℕ) (c : Components) : Type 0 where
-    pub characters : first_bad (unfolded s) ≡ none
+    pub characters : first_bad (unfolded s) ≡ None
     pub verdict : lines_verdict ed (length (unfolded s)) (lines (unfolded s)) ≡ fine
     pub states : calendar_of ed (lines (unfolded s)) ≡ c
 
@@ -153,7 +152,7 @@ module _ (ed : Edition) where
       record { characters = b.0; verdict = b.1; states = a.1 }
 
   -- it states all the components of its lines
-  pub text_tree : (u : List ℕ) (e : ℕ) → first_bad u ≡ none → lines_verdict ed e (lines u) ≡ fine → calendar_of ed (lines u) ≡ inner_of (map (entry_of ed) (lines u)) 0
+  pub text_tree : (u : List ℕ) (e : ℕ) → first_bad u ≡ None → lines_verdict ed e (lines u) ≡ fine → calendar_of ed (lines u) ≡ inner_of (map (entry_of ed) (lines u)) 0
   text_tree u e g h = let n = verdict_nesting (lines u) e h in tree_whole ed (lines u) e (text_lines_good u g (nesting_whole (lines u) e [] n)) n
 
   pub accepts_back : (s : List ℕ) (room : ℕ) (c : Components) → Accepts s c → length s ≤ limit → length s ≤ room → read_calendar ed s room ≡ accepted c

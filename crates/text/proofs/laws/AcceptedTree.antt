@@ -2,14 +2,12 @@
 --     Frames st es d    what the entries that are left make of the open components st is valid, where the first of these is d further out
 --     tree_whole        accepted lines state all the components of their entries
 --     tree_accepted     what they state is valid;   tree_some: and not nothing
-use Rattle.std.specs.Prelude.{◌≡◌, Bool, not, ℕ, suc, ◌-◌, ◌<◌, ltb}
+use Rattle.std.specs.Prelude.{◌≡◌, Bool, not, ℕ, suc, ◌-◌, ◌<◌, ltb, Option, None, Some, option_map}
 use Rattle.std.proofs.Math.Path.{refl}
 use Rattle.std.proofs.Common.{◌∙◌, arith, lt-ltb, ltb-true}
 use Rattle.std.proofs.Math.Bool.{true, false}
 use Rattle.std.proofs.lemmas.Bool.{false≢true}
 use mathlib.Core.List.{List, [], ◌∷◌, map}
-use Rattle.std.proofs.Math.Option
-use Rattle.std.proofs.Math.Option.{Option, none, some}
 use Rattle.std.proofs.Math.ListN.{length}
 use Rattle.octets.specs.Ascii.{ascii}
 use Rattle.octets.specs.Pick.{pick, ◌and◌, ◌or◌}
@@ -71,9 +69,9 @@ module _ (ed : Edition) where
   parameters_valid ps h l g =
       every_weaker _ (is_valid_parameter ed) parameter_valid ps (every-and is_parameter (λ p. is_line_parameter ed p and is_good_parameter p) ps h (every-and (is_line_parameter ed) is_good_parameter ps l g))
 
-  property_valid : (k : List ℕ) (l : ContentLine) → is_content_line l ≡ true → first_bad (write_content_line l) ≡ none → names_carried (decoded_line ed l) ≡ true →
+  property_valid : (k : List ℕ) (l : ContentLine) → is_content_line l ≡ true → first_bad (write_content_line l) ≡ None → names_carried (decoded_line ed l) ≡ true →
       same (upper l.name) (ascii "BEGIN") ≡ false → same (upper l.name) (ascii "END") ≡ false → (not (is_known_property (upper l.name)) or may_stand k (upper l.name)) ≡ true →
-      property_fault k (decoded_line ed l) ≡ none → is_valid_property ed k (property_of k (decoded_line ed l)) ≡ true
+      property_fault k (decoded_line ed l) ≡ None → is_valid_property ed k (property_of k (decoded_line ed l)) ≡ true
   unfolding is_valid_property is_property are_parameters names_carried property_of
   property_valid k l q g c b e m h =
       let n = and_both (is_carried_name l.name) _ c in
@@ -201,10 +199,10 @@ module _ (ed : Edition) where
       let e = closed (same k f.name) (is_empty ps) (complete f.name f.seen (record { inner = f.inner; method = method_in st })) _ _ _ st u m in
       (record { own = refl; inside = refl; counts = rw (or-false f.inner) e.0; settled = λ i. refl }, frames_end st es 0 (rw (← e.1) at h))
 
-  held : (a : Bool) (o : Option Fault) (q : Fault) (v u : List Open) → pick a (told o (on v)) (stop q) ≡ on u → (a ≡ true) × (o ≡ none) × (v ≡ u)
+  held : (a : Bool) (o : Option Fault) (q : Fault) (v u : List Open) → pick a (told o (on v)) (stop q) ≡ on u → (a ≡ true) × (o ≡ None) × (v ≡ u)
   unfolding pick
-  held true none q v u h = (refl, refl, cc)
-  held true (some r) q v u h = stop-on h
+  held true None q v u h = (refl, refl, cc)
+  held true (Some r) q v u h = stop-on h
   held false o q v u h = stop-on h
 
   -- a property behind a subcomponent stands in a VTIMEZONE
@@ -217,7 +215,7 @@ module _ (ed : Edition) where
   unfolding method_for octets_compute
   timezone_method k ps qs m e = rw (same_true k (ascii "VTIMEZONE") e)
 
-  property_step : (l : ContentLine) (st u : List Open) (es : List Entry) → is_content_line l ≡ true → first_bad (write_content_line l) ≡ none → names_carried (decoded_line ed l) ≡ true →
+  property_step : (l : ContentLine) (st u : List Open) (es : List Entry) → is_content_line l ≡ true → first_bad (write_content_line l) ≡ None → names_carried (decoded_line ed l) ≡ true →
       same (upper l.name) (ascii "BEGIN") ≡ false → same (upper l.name) (ascii "END") ≡ false → states (decoded_line ed l) st ≡ on u → Frames u es 0 → Frames st (property (decoded_line ed l) ∷ es) 0
   unfolding states own_of inner_of turned every
   property_step l [] u es q g c b e m h = stop-on m
@@ -235,11 +233,11 @@ module _ (ed : Edition) where
 
   -- ---- one line
 
-  line_step : (s : List ℕ) (st u : List Open) (es : List Entry) → first_bad s ≡ none → move ed s st ≡ on u → Frames u es 0 → Frames st (entry_by (read_line ed s) ∷ es) 0
+  line_step : (s : List ℕ) (st u : List Open) (es : List Entry) → first_bad s ≡ None → move ed s st ≡ on u → Frames u es 0 → Frames st (entry_by (read_line ed s) ∷ es) 0
   unfolding move_of move_by entry_by pick
   line_step s st u es g m h = go (content_line s) refl m
     where
-      by : (l : ContentLine) → content_line s ≡ some l → (c b e : Bool) → names_carried (decoded_line ed l) ≡ c → same (upper l.name) (ascii "BEGIN") ≡ b → same (upper l.name) (ascii "END") ≡ e →
+      by : (l : ContentLine) → content_line s ≡ Some l → (c b e : Bool) → names_carried (decoded_line ed l) ≡ c → same (upper l.name) (ascii "BEGIN") ≡ b → same (upper l.name) (ascii "END") ≡ e →
           pick c (pick b (begins (upper l.value) (decoded_line ed l).parameters st) (pick e (ends (upper l.value) (decoded_line ed l).parameters st) (states (decoded_line ed l) st))) (stop (fault Refusal.NAME line_start)) ≡ on u →
           Frames st (pick b (begin (upper l.value)) (pick e end (property (decoded_line ed l))) ∷ es) 0
       by l i false b e c₁ b₁ e₁ k = stop-on k
@@ -248,9 +246,9 @@ module _ (ed : Edition) where
       by l i true false false c₁ b₁ e₁ k =
           property_step l st u es (content_line_accepted s l i) (rw (content_line_write_back s l i) g) c₁ b₁ e₁ k h
 
-      go : (o : Option ContentLine) → content_line s ≡ o → move_of (Option.map (decoded_line ed) o) st ≡ on u → Frames st (entry_by (Option.map (decoded_line ed) o) ∷ es) 0
-      go none i k = stop-on k
-      go (some l) i k = by l i (names_carried (decoded_line ed l)) (same (upper l.name) (ascii "BEGIN")) (same (upper l.name) (ascii "END")) refl refl refl k
+      go : (o : Option ContentLine) → content_line s ≡ o → move_of (option_map (decoded_line ed) o) st ≡ on u → Frames st (entry_by (option_map (decoded_line ed) o) ∷ es) 0
+      go None i k = stop-on k
+      go (Some l) i k = by l i (names_carried (decoded_line ed l)) (same (upper l.name) (ascii "BEGIN")) (same (upper l.name) (ascii "END")) refl refl refl k
 
   -- ---- all lines
 
@@ -291,8 +289,8 @@ module _ (ed : Edition) where
       by l true false false k = stop-on k
 
       go : (o : Option ContentLine) → move_of o [] ≡ on u → has_components (shallow levels (inner_of (entry_by o ∷ es) 0)) ≡ true
-      go none k = stop-on k
-      go (some l) k = by l (names_carried l) (same (upper l.name) (ascii "BEGIN")) (same (upper l.name) (ascii "END")) k
+      go None k = stop-on k
+      go (Some l) k = by l (names_carried l) (same (upper l.name) (ascii "BEGIN")) (same (upper l.name) (ascii "END")) k
 
   pub tree_some : (l : Line) (ls : List Line) (e : ℕ) → nesting ed e (l ∷ ls) [] ≡ fine → has_components (calendar_of ed (l ∷ ls)) ≡ true
   unfolding nesting calendar_of entry_of

@@ -1,10 +1,8 @@
 -- What is read for a property is values that the property has in its component.
 --     values_accepted    of a type that is permitted, all of that type, one unless a list is taken, words of the closed set where there is one
-use Rattle.std.specs.Prelude.{◌≡◌, refl, Bool, true, false, List, [], ◌∷◌, map, ℕ}
+use Rattle.std.specs.Prelude.{◌≡◌, refl, Bool, true, false, List, [], ◌∷◌, map, ℕ, Option, None, Some, option_map}
 use Rattle.std.proofs.Common.{sym, ◌∙◌}
 use Rattle.std.proofs.lemmas.Bool.{false≢true}
-use Rattle.std.proofs.Math.Option
-use Rattle.std.proofs.Math.Option.{Option, none, some}
 use Rattle.octets.specs.Ascii.{ascii}
 use Rattle.octets.specs.Pick.{pick, ◌and◌, ◌or◌}
 use Rattle.octets.specs.laws.Pick.{and_yes, and_both, or_right}
@@ -40,30 +38,30 @@ Pass p l t vs = (is_amount l vs ≡ true) × (every p vs ≡ true) × (type_of_a
 -- ---- one value
 
 one_passes : (p : Value → Bool) (l : Bool) (t : ValueType) (o : Option Value) (vs : List Value) →
-    ((v : Value) → o ≡ some v → (p v ≡ true) × (type_of v ≡ t)) → one_value o ≡ some vs → Pass p l t vs
+    ((v : Value) → o ≡ Some v → (p v ≡ true) × (type_of v ≡ t)) → one_value o ≡ Some vs → Pass p l t vs
 unfolding every
-one_passes p l t none vs f h = none-some h
-one_passes p l t (some v) vs f h =
+one_passes p l t None vs f h = none-some h
+one_passes p l t (Some v) vs f h =
     let e : v ∷ [] ≡ vs = cc in
     let q = f v refl in
     rw (← e) (or_right l true refl, and_yes (p v) true q.0 refl, q.1)
 
-geo_passes : (s : List ℕ) (v : Value) → read_geo s ≡ some v → (is_own_value FLOAT v ≡ true) × (type_of v ≡ FLOAT)
+geo_passes : (s : List ℕ) (v : Value) → read_geo s ≡ Some v → (is_own_value FLOAT v ≡ true) × (type_of v ≡ FLOAT)
 geo_passes s v h =
     let g = geo_accepted s v h in
     rw g.both (and_yes _ _ (same_type_self FLOAT) (and_yes _ _ refl (and_yes _ _ g.latitude_normal g.longitude_normal)), refl)
 
-status_passes : (s : List ℕ) (v : Value) → read_request_status s ≡ some v → (is_own_value TEXT v ≡ true) × (type_of v ≡ TEXT)
+status_passes : (s : List ℕ) (v : Value) → read_request_status s ≡ Some v → (is_own_value TEXT v ≡ true) × (type_of v ≡ TEXT)
 unfolding ◌and◌
 status_passes s v h = rw ((request_status_accepted s v h).is, same_type_self TEXT) (refl, refl)
 
-typed_passes : (t : ValueType) (s : List ℕ) (v : Value) → read_value ical t s ≡ some v → (is_of_type t v ≡ true) × (type_of v ≡ t)
+typed_passes : (t : ValueType) (s : List ℕ) (v : Value) → read_value ical t s ≡ Some v → (is_of_type t v ≡ true) × (type_of v ≡ t)
 typed_passes t s v h = let a = value_accepted ical t s v h in (rw (a.2, same_type_self t) (and_yes _ _ refl (and_yes _ _ a.1 a.0)), a.2)
 
 chosen_passes : (k n : List ℕ) (o : Option (List (List ℕ))) (t : ValueType) (s : List ℕ) (v : Value) → property_words k n ≡ o → is_type_of t (permitted_types n) ≡ true →
-    read_chosen o t s ≡ some v → (is_chosen o t v ≡ true) × (type_of v ≡ t)
-chosen_passes k n none t s v e p h = typed_passes t s v h
-chosen_passes k n (some words) t s v e p h =
+    read_chosen o t s ≡ Some v → (is_chosen o t v ≡ true) × (type_of v ≡ t)
+chosen_passes k n None t s v e p h = typed_passes t s v h
+chosen_passes k n (Some words) t s v e p h =
     let q = provided-some (is_one_of (upper s) words) (text (upper s)) v h in
     let u : t ≡ TEXT = only_type t TEXT (rw (property_words_text k n words e).0 at p) in
     rw (← q.1, u) (q.0, refl)
@@ -84,15 +82,15 @@ texts_some : (ts : List (List ℕ)) → is_empty ts ≡ false → is_empty (map 
 texts_some [] h = h
 texts_some (t ∷ ts) h = refl
 
-listed_passes : (t : ValueType) (s : List ℕ) (vs : List Value) → read_listed t s ≡ some vs → Pass (is_of_type t) true t vs
+listed_passes : (t : ValueType) (s : List ℕ) (vs : List Value) → read_listed t s ≡ Some vs → Pass (is_of_type t) true t vs
 unfolding pick
 listed_passes t s vs h = go (same_type t TEXT) refl h
   where
-    texts : (o : Option (List (List ℕ))) → read_texts s ≡ o → Option.map (map text) o ≡ some vs → Pass (is_of_type TEXT) true TEXT vs
-    texts none e k = none-some k
-    texts (some ts) e k = let q : map text ts ≡ vs = cc in rw (← q) (typed_all TEXT (map text ts) (texts_some ts (texts_accepted s ts e)) (texts_pass ts))
+    texts : (o : Option (List (List ℕ))) → read_texts s ≡ o → option_map (map text) o ≡ Some vs → Pass (is_of_type TEXT) true TEXT vs
+    texts None e k = none-some k
+    texts (Some ts) e k = let q : map text ts ≡ vs = cc in rw (← q) (typed_all TEXT (map text ts) (texts_some ts (texts_accepted s ts e)) (texts_pass ts))
 
-    go : (b : Bool) → same_type t TEXT ≡ b → pick b (Option.map (map text) (read_texts s)) (read_each (read_value ical t) (cut_at 44 s)) ≡ some vs → Pass (is_of_type t) true t vs
+    go : (b : Bool) → same_type t TEXT ≡ b → pick b (option_map (map text) (read_texts s)) (read_each (read_value ical t) (cut_at 44 s)) ≡ Some vs → Pass (is_of_type t) true t vs
     go true e k = rw (same_type_true t TEXT e) (texts (read_texts s) refl k)
     go false e k =
         typed_all t vs (each_empty (read_value ical t) (cut_at 44 s) vs k ∙ cut_some 44 s)
@@ -100,13 +98,13 @@ listed_passes t s vs h = go (same_type t TEXT) refl h
 
 -- ---- the values of a property
 
-own_passes : (k n : List ℕ) (t : ValueType) (s : List ℕ) (vs : List Value) → is_type_of t (permitted_types n) ≡ true → read_own k n t s ≡ some vs →
+own_passes : (k n : List ℕ) (t : ValueType) (s : List ℕ) (vs : List Value) → is_type_of t (permitted_types n) ≡ true → read_own k n t s ≡ Some vs →
     Pass (is_property_value k n t) (is_listed_property n) t vs
 unfolding pick ◌or◌
 own_passes k n t s vs p h = go (same n (ascii "GEO")) refl (same n (ascii "REQUEST-STATUS")) refl (is_listed_property n) refl h
   where
     go : (g : Bool) → same n (ascii "GEO") ≡ g → (r : Bool) → same n (ascii "REQUEST-STATUS") ≡ r → (l : Bool) → is_listed_property n ≡ l →
-        pick g (one_value (read_geo s)) (pick r (one_value (read_request_status s)) (pick l (read_listed t s) (one_value (read_chosen (property_words k n) t s)))) ≡ some vs →
+        pick g (one_value (read_geo s)) (pick r (one_value (read_request_status s)) (pick l (read_listed t s) (one_value (read_chosen (property_words k n) t s)))) ≡ Some vs →
         Pass (λ v. pick (g or r) (is_own_value t v) (is_chosen (property_words k n) t v)) l t vs
     go true e r f l x h =
         let u : t ≡ FLOAT = only_type t FLOAT (rw (geo_row n e).0 at p) in
@@ -118,11 +116,11 @@ own_passes k n t s vs p h = go (same n (ascii "GEO")) refl (same n (ascii "REQUE
     go false e false f false x h =
         one_passes (is_chosen (property_words k n) t) false t (read_chosen (property_words k n) t s) vs (λ v c. chosen_passes k n (property_words k n) t s v refl p c) h
 
-pub values_accepted : (k n : List ℕ) (t : ValueType) (s : List ℕ) (vs : List Value) → read_values k n t s ≡ some vs → (are_values_of k n t vs ≡ true) × (type_of_all vs ≡ t)
+pub values_accepted : (k n : List ℕ) (t : ValueType) (s : List ℕ) (vs : List Value) → read_values k n t s ≡ Some vs → (are_values_of k n t vs ≡ true) × (type_of_all vs ≡ t)
 unfolding are_values_of read_values pick
 values_accepted k n t s vs h = go (is_type_of t (permitted_types n)) refl h
   where
-    go : (b : Bool) → is_type_of t (permitted_types n) ≡ b → pick b (read_own k n t s) none ≡ some vs →
+    go : (b : Bool) → is_type_of t (permitted_types n) ≡ b → pick b (read_own k n t s) None ≡ Some vs →
         ((b and is_amount (is_listed_property n) vs and every (is_property_value k n t) vs) ≡ true) × (type_of_all vs ≡ t)
     go true p q = let a = own_passes k n t s vs p q in (and_yes _ _ refl (and_yes _ _ a.0 a.1), a.2)
     go false p q = none-some q

@@ -1,10 +1,9 @@
 -- Characters of values with carets (RFC 6868): a caret and its letter are ASCII, so that a value is well formed encoded and decoded where it is.
 --     encode_good, decode_good;   type_encoded: the name of a type
-use Rattle.std.specs.Prelude.{◌≡◌, Bool, List, [], ◌∷◌, ℕ, zero, suc, ◌+◌, ◌≤◌, leb}
+use Rattle.std.specs.Prelude.{◌≡◌, Bool, List, [], ◌∷◌, ℕ, zero, suc, ◌+◌, ◌≤◌, leb, None, Some}
 use Rattle.std.proofs.Math.Path.{refl}
 use Rattle.std.proofs.Common.{sym, ◌∙◌, arith}
 use Rattle.std.proofs.Math.Bool.{true, false}
-use Rattle.std.proofs.Math.Option.{none, some}
 use Rattle.std.proofs.Math.Dec.{eqb}
 use borrow.Author.Tests.{leb-true, ne_eqb, eqb-true}
 use Rattle.octets.specs.Pick.{pick, within, ◌and◌, ◌or◌}
@@ -27,20 +26,20 @@ use Rattle.edition.specs.declared.Edition.TheVariants.{Rfc5545, Rfc6868}
 use Rattle.text.proofs.laws.EscapedCharacters.{one_good, Spelled}
 
 -- a character that is there, before what comes of those behind it
-begun_good : (a i : ℕ) (s d : List ℕ) → pick (is_sequence a s) (bad_from (more a) (i + 1) s) (some i) ≡ none →
-    (tails (more a) (low a) (high a) (eqb a 0xEF) s ≡ true → bad_from (more a) (i + 1) s ≡ none → Spelled (more a) (low a) (high a) (eqb a 0xEF) d) →
-    (is_sequence a d ≡ true) × ((j : ℕ) → bad_from (more a) j d ≡ none)
+begun_good : (a i : ℕ) (s d : List ℕ) → pick (is_sequence a s) (bad_from (more a) (i + 1) s) (Some i) ≡ None →
+    (tails (more a) (low a) (high a) (eqb a 0xEF) s ≡ true → bad_from (more a) (i + 1) s ≡ None → Spelled (more a) (low a) (high a) (eqb a 0xEF) d) →
+    (is_sequence a d ≡ true) × ((j : ℕ) → bad_from (more a) j d ≡ None)
 unfolding pick
 begun_good a i s d h f = go (is_sequence a s) refl h
   where
-    go : (u : Bool) → is_sequence a s ≡ u → pick u (bad_from (more a) (i + 1) s) (some i) ≡ none → (is_sequence a d ≡ true) × ((j : ℕ) → bad_from (more a) j d ≡ none)
+    go : (u : Bool) → is_sequence a s ≡ u → pick u (bad_from (more a) (i + 1) s) (Some i) ≡ None → (is_sequence a d ≡ true) × ((j : ℕ) → bad_from (more a) j d ≡ None)
     go false e k = none-some (sym k)
     go true e k =
         let c = and_both (leb (more a) 3) _ e in
         let g = f c.1 k in
         (and_yes _ _ c.0 g.begun, g.onward)
 
-first_good : (a j : ℕ) (d : List ℕ) → (is_sequence a d ≡ true) × ((j : ℕ) → bad_from (more a) j d ≡ none) → bad_from 0 j (a ∷ d) ≡ none
+first_good : (a j : ℕ) (d : List ℕ) → (is_sequence a d ≡ true) × ((j : ℕ) → bad_from (more a) j d ≡ None) → bad_from 0 j (a ∷ d) ≡ None
 first_good a j d g = one_good a j d g.0 (g.1 (j + 1))
 
 -- ---- encoded
@@ -51,27 +50,27 @@ high_encode b h =
     pick_no _ _ _ (ne_eqb b 10 (λ e. omega arith)) ∙ pick_no _ _ _ (ne_eqb b 34 (λ e. omega arith)) ∙ pick_no _ _ _ (ne_eqb b 94 (λ e. omega arith))
 
 -- a caret and a letter before whole characters
-pair_good : (c i : ℕ) (s : List ℕ) → is_ascii c ≡ true → ((j : ℕ) → bad_from 0 j s ≡ none) → bad_from 0 i (94 ∷ c ∷ s) ≡ none
+pair_good : (c i : ℕ) (s : List ℕ) → is_ascii c ≡ true → ((j : ℕ) → bad_from 0 j s ≡ None) → bad_from 0 i (94 ∷ c ∷ s) ≡ None
 unfolding pick ◌and◌ ◌or◌
 pair_good c i s a h = ascii_first 94 i (c ∷ s) refl ∙ ascii_first c (i + 1) s a ∙ h (i + 1 + 1)
 
-encode_byte_good : (a i : ℕ) (s : List ℕ) → (is_sequence a s ≡ true) × ((j : ℕ) → bad_from (more a) j s ≡ none) → bad_from 0 i (encode_byte a ⊕ s) ≡ none
+encode_byte_good : (a i : ℕ) (s : List ℕ) → (is_sequence a s ≡ true) × ((j : ℕ) → bad_from (more a) j s ≡ None) → bad_from 0 i (encode_byte a ⊕ s) ≡ None
 unfolding ◌⊕◌ pick ◌and◌ ◌or◌
 encode_byte_good a i s g = newline (eqb a 10) refl
   where
-    caret : (t : Bool) → eqb a 94 ≡ t → bad_from 0 i (pick t (94 ∷ 94 ∷ []) (a ∷ []) ⊕ s) ≡ none
+    caret : (t : Bool) → eqb a 94 ≡ t → bad_from 0 i (pick t (94 ∷ 94 ∷ []) (a ∷ []) ⊕ s) ≡ None
     caret true e = pair_good 94 i s refl (λ j. rw (eqb-true a 94 e) at (g.1 j))
     caret false e = first_good a i s g
 
-    quote : (t : Bool) → eqb a 34 ≡ t → bad_from 0 i (pick t (94 ∷ 39 ∷ []) (pick (eqb a 94) (94 ∷ 94 ∷ []) (a ∷ [])) ⊕ s) ≡ none
+    quote : (t : Bool) → eqb a 34 ≡ t → bad_from 0 i (pick t (94 ∷ 39 ∷ []) (pick (eqb a 94) (94 ∷ 94 ∷ []) (a ∷ [])) ⊕ s) ≡ None
     quote true e = pair_good 39 i s refl (λ j. rw (eqb-true a 34 e) at (g.1 j))
     quote false e = caret (eqb a 94) refl
 
-    newline : (t : Bool) → eqb a 10 ≡ t → bad_from 0 i (pick t (94 ∷ 110 ∷ []) (pick (eqb a 34) (94 ∷ 39 ∷ []) (pick (eqb a 94) (94 ∷ 94 ∷ []) (a ∷ []))) ⊕ s) ≡ none
+    newline : (t : Bool) → eqb a 10 ≡ t → bad_from 0 i (pick t (94 ∷ 110 ∷ []) (pick (eqb a 34) (94 ∷ 39 ∷ []) (pick (eqb a 94) (94 ∷ 94 ∷ []) (a ∷ []))) ⊕ s) ≡ None
     newline true e = pair_good 110 i s refl (λ j. rw (eqb-true a 10 e) at (g.1 j))
     newline false e = quote (eqb a 34) refl
 
-encoded_from : (s : List ℕ) (k lo hi : ℕ) (l : Bool) (i : ℕ) → 0x80 ≤ lo → tails k lo hi l s ≡ true → bad_from k i s ≡ none → Spelled k lo hi l (encoding s)
+encoded_from : (s : List ℕ) (k lo hi : ℕ) (l : Bool) (i : ℕ) → 0x80 ≤ lo → tails k lo hi l s ≡ true → bad_from k i s ≡ None → Spelled k lo hi l (encoding s)
 unfolding encoding bad_from tails ◌⊕◌
 encoded_from [] k lo hi l i b t h = record { begun = t; onward = λ j. refl }
 encoded_from (a ∷ s) (suc k) lo hi l i b t h =
@@ -83,7 +82,7 @@ encoded_from (a ∷ s) zero lo hi l i b t h =
     let g = begun_good a i s (encoding s) h (encoded_from s (more a) (low a) (high a) (eqb a 0xEF) (i + 1) (low_least a)) in
     record { begun = refl; onward = λ j. encode_byte_good a j (encoding s) g }
 
-pub encode_good : (ed : Edition) (s : List ℕ) → first_bad s ≡ none → first_bad (encode ed s) ≡ none
+pub encode_good : (ed : Edition) (s : List ℕ) → first_bad s ≡ None → first_bad (encode ed s) ≡ None
 unfolding encode tails
 encode_good Rfc5545 s h = h
 encode_good Rfc6868 s h = (encoded_from s 0 0x80 0xBF false 0 (omega arith) refl h).onward 0
@@ -115,11 +114,11 @@ high_decode b s h = pick_no _ _ _ (ne_eqb b 94 (λ e. omega arith))
 
 -- behind whole characters, and behind an open caret
 record Decoded (s : List ℕ) : Type 0 where
-  shut : (k lo hi : ℕ) (l : Bool) (i : ℕ) → 0x80 ≤ lo → tails k lo hi l s ≡ true → bad_from k i s ≡ none → Spelled k lo hi l (decoding s false)
-  opened : (i : ℕ) → bad_from 0 i s ≡ none → (j : ℕ) → bad_from 0 j (decoding s true) ≡ none
+  shut : (k lo hi : ℕ) (l : Bool) (i : ℕ) → 0x80 ≤ lo → tails k lo hi l s ≡ true → bad_from k i s ≡ None → Spelled k lo hi l (decoding s false)
+  opened : (i : ℕ) → bad_from 0 i s ≡ None → (j : ℕ) → bad_from 0 j (decoding s true) ≡ None
 
 module _ (a : ℕ) (s : List ℕ) (d : Decoded s) where
-  inner : (k lo hi : ℕ) (l : Bool) (i : ℕ) → 0x80 ≤ lo → tails (suc k) lo hi l (a ∷ s) ≡ true → bad_from (suc k) i (a ∷ s) ≡ none → Spelled (suc k) lo hi l (decoding (a ∷ s) false)
+  inner : (k lo hi : ℕ) (l : Bool) (i : ℕ) → 0x80 ≤ lo → tails (suc k) lo hi l (a ∷ s) ≡ true → bad_from (suc k) i (a ∷ s) ≡ None → Spelled (suc k) lo hi l (decoding (a ∷ s) false)
   unfolding bad_from tails
   inner k lo hi l i b t h =
       let e = and_both (within lo hi a) _ t in
@@ -127,26 +126,26 @@ module _ (a : ℕ) (s : List ℕ) (d : Decoded s) where
       let ih = d.shut k 0x80 (high_after l a) false (i + 1) (omega arith) e.1 h in
       rw (high_decode a s (omega arith)) (record { begun = and_yes _ _ e.0 ih.begun; onward = λ j. ih.onward (j + 1) })
 
-  begun : (i : ℕ) → bad_from 0 i (a ∷ s) ≡ none → (is_sequence a (decoding s false) ≡ true) × ((j : ℕ) → bad_from (more a) j (decoding s false) ≡ none)
+  begun : (i : ℕ) → bad_from 0 i (a ∷ s) ≡ None → (is_sequence a (decoding s false) ≡ true) × ((j : ℕ) → bad_from (more a) j (decoding s false) ≡ None)
   unfolding bad_from
   begun i h = begun_good a i s (decoding s false) h (d.shut (more a) (low a) (high a) (eqb a 0xEF) (i + 1) (low_least a))
 
-  after_ascii : (i : ℕ) → is_ascii a ≡ true → bad_from 0 i (a ∷ s) ≡ none → bad_from 0 (i + 1) s ≡ none
+  after_ascii : (i : ℕ) → is_ascii a ≡ true → bad_from 0 i (a ∷ s) ≡ None → bad_from 0 (i + 1) s ≡ None
   after_ascii i e h = sym (ascii_first a i s e) ∙ h
 
-  plain : (i : ℕ) → bad_from 0 i (a ∷ s) ≡ none → (j : ℕ) → bad_from 0 j (decoding (a ∷ s) false) ≡ none
+  plain : (i : ℕ) → bad_from 0 i (a ∷ s) ≡ None → (j : ℕ) → bad_from 0 j (decoding (a ∷ s) false) ≡ None
   unfolding decoding pick
   plain i h j = go (eqb a 94) refl
     where
-      go : (t : Bool) → eqb a 94 ≡ t → bad_from 0 j (pick t (decoding s true) (a ∷ decoding s false)) ≡ none
+      go : (t : Bool) → eqb a 94 ≡ t → bad_from 0 j (pick t (decoding s true) (a ∷ decoding s false)) ≡ None
       go true e = d.opened (i + 1) (after_ascii i (eqb_passes is_ascii 94 a caret_ascii e) h) j
       go false e = first_good a j (decoding s false) (begun i h)
 
-  caret : (i : ℕ) → bad_from 0 i (a ∷ s) ≡ none → (j : ℕ) → bad_from 0 j (decoding (a ∷ s) true) ≡ none
+  caret : (i : ℕ) → bad_from 0 i (a ∷ s) ≡ None → (j : ℕ) → bad_from 0 j (decoding (a ∷ s) true) ≡ None
   unfolding decoding pick tails
   caret i h j = go (is_letter a) refl
     where
-      go : (t : Bool) → is_letter a ≡ t → bad_from 0 j (pick t (meant a ∷ decoding s false) (94 ∷ a ∷ decoding s false)) ≡ none
+      go : (t : Bool) → is_letter a ≡ t → bad_from 0 j (pick t (meant a ∷ decoding s false) (94 ∷ a ∷ decoding s false)) ≡ None
       go true e = ascii_first (meant a) j (decoding s false) (meant_ascii a) ∙ (d.shut 0 0x80 0xBF false (i + 1) (omega arith) refl (after_ascii i (letter_ascii a e) h)).onward (j + 1)
       go false e = ascii_first 94 j (a ∷ decoding s false) caret_ascii ∙ first_good a (j + 1) (decoding s false) (begun i h)
 
@@ -155,11 +154,11 @@ unfolding decoding bad_from tails
 decoded_from [] = record { shut = λ k lo hi l i b t h. record { begun = t; onward = λ j. refl }; opened = λ i h j. ascii_first 94 j [] caret_ascii }
 decoded_from (a ∷ s) = let d = decoded_from s in record { shut = λ k. step d k; opened = caret a s d }
   where
-    step : Decoded s → (k lo hi : ℕ) (l : Bool) (i : ℕ) → 0x80 ≤ lo → tails k lo hi l (a ∷ s) ≡ true → bad_from k i (a ∷ s) ≡ none → Spelled k lo hi l (decoding (a ∷ s) false)
+    step : Decoded s → (k lo hi : ℕ) (l : Bool) (i : ℕ) → 0x80 ≤ lo → tails k lo hi l (a ∷ s) ≡ true → bad_from k i (a ∷ s) ≡ None → Spelled k lo hi l (decoding (a ∷ s) false)
     step d zero lo hi l i b t h = record { begun = refl; onward = plain a s d i h }
     step d (suc k) lo hi l i b t h = inner a s d k lo hi l i b t h
 
-pub decode_good : (ed : Edition) (s : List ℕ) → first_bad s ≡ none → first_bad (decode ed s) ≡ none
+pub decode_good : (ed : Edition) (s : List ℕ) → first_bad s ≡ None → first_bad (decode ed s) ≡ None
 unfolding decode tails
 decode_good Rfc5545 s h = h
 decode_good Rfc6868 s h = ((decoded_from s).shut 0 0x80 0xBF false 0 (omega arith) refl h).onward 0

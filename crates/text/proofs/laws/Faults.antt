@@ -5,13 +5,12 @@
 --     own_every         what all parameters pass, those but VALUE pass
 --     fault_within      a fault of a parameter is one of the line's
 --     fault_not         a line with a fault is refused
-use Rattle.std.specs.Prelude.{◌≡◌, Bool, ℕ, suc, ◌+◌, ◌<◌, length}
+use Rattle.std.specs.Prelude.{◌≡◌, Bool, ℕ, suc, ◌+◌, ◌<◌, length, Option, None, Some}
 use Rattle.std.proofs.Math.Path.{refl}
 use Rattle.std.proofs.Common.{sym, ◌∙◌, arith}
 use Rattle.std.proofs.Math.Bool.{true, false, not}
 use Rattle.std.proofs.lemmas.Bool.{false≢true}
 use mathlib.Core.List.{List, [], ◌∷◌, map}
-use Rattle.std.proofs.Math.Option.{Option, none, some}
 use borrow.Author.Tests.{not-true}
 use Rattle.octets.specs.Ascii.{ascii}
 use Rattle.octets.specs.Pick.{pick, ◌and◌, ◌or◌}
@@ -52,7 +51,7 @@ fault_not (fault r w) p s h = refused_not _ _ h
 
 -- ---- a parameter, and those behind it
 
-some-none : {A X : Type 0} {a : A} → some a ≡ none → X
+some-none : {A X : Type 0} {a : A} → Some a ≡ None → X
 some-none e = none-some (sym e)
 
 not_yes : (b : Bool) → b ≡ false → not b ≡ true
@@ -67,12 +66,12 @@ not_no false h = absurd (false≢true (sym h))
 
 module _ (fit : RawParameter → Bool) where
   -- the first of them is not faulty, and none behind it is
-  turn : (before : List (List ℕ)) (r : RawParameter) (rs : List RawParameter) → first_faulty fit before (r ∷ rs) ≡ none →
-      (is_faulty fit before r ≡ false) × (first_faulty fit (name_of r ∷ before) rs ≡ none)
+  turn : (before : List (List ℕ)) (r : RawParameter) (rs : List RawParameter) → first_faulty fit before (r ∷ rs) ≡ None →
+      (is_faulty fit before r ≡ false) × (first_faulty fit (name_of r ∷ before) rs ≡ None)
   unfolding first_faulty pick
   turn before r rs h = go (is_faulty fit before r) h
     where
-      go : (b : Bool) → pick b (some (length before)) (first_faulty fit (name_of r ∷ before) rs) ≡ none → (b ≡ false) × (first_faulty fit (name_of r ∷ before) rs ≡ none)
+      go : (b : Bool) → pick b (Some (length before)) (first_faulty fit (name_of r ∷ before) rs) ≡ None → (b ≡ false) × (first_faulty fit (name_of r ∷ before) rs ≡ None)
       go true k = some-none k
       go false k = (refl, k)
 
@@ -91,7 +90,7 @@ module _ (fit : RawParameter → Bool) where
 
   -- ---- without a fault: each stands once
 
-  apart : (before : List (List ℕ)) (w : List ℕ) (rs : List RawParameter) → is_one_of w before ≡ true → first_faulty fit before rs ≡ none → is_one_of w (map name_of rs) ≡ false
+  apart : (before : List (List ℕ)) (w : List ℕ) (rs : List RawParameter) → is_one_of w before ≡ true → first_faulty fit before rs ≡ None → is_one_of w (map name_of rs) ≡ false
   unfolding is_one_of
   apart before w [] k h = refl
   apart before w (r ∷ rs) k h = let e = turn before r rs h in or_no _ _ (other (same w (name_of r)) refl) (apart (name_of r ∷ before) w rs (or_right _ _ k) e.1)
@@ -100,7 +99,7 @@ module _ (fit : RawParameter → Bool) where
       other true q = absurd (false≢true (sym (sound before r (turn before r rs h).0).fresh ∙ rw (← (same_true w (name_of r) q)) k))
       other false q = refl
 
-  once : (before : List (List ℕ)) (rs : List RawParameter) → first_faulty fit before rs ≡ none → distinct (map name_of rs) ≡ true
+  once : (before : List (List ℕ)) (rs : List RawParameter) → first_faulty fit before rs ≡ None → distinct (map name_of rs) ≡ true
   unfolding distinct is_one_of pick
   once before [] h = refl
   once before (r ∷ rs) h =
@@ -109,7 +108,7 @@ module _ (fit : RawParameter → Bool) where
 
   -- ---- VALUE names a type
 
-  stated : (n : List ℕ) (before : List (List ℕ)) (rs : List RawParameter) → first_faulty fit before rs ≡ none → is_read (stated_type n rs) ≡ true
+  stated : (n : List ℕ) (before : List (List ℕ)) (rs : List RawParameter) → first_faulty fit before rs ≡ None → is_read (stated_type n rs) ≡ true
   unfolding stated_type is_read pick
   stated n before [] h = refl
   stated n before (r ∷ rs) h = let e = turn before r rs h in go (is_value_parameter r) refl (sound before r e.0) (stated n (name_of r ∷ before) rs e.1)
@@ -120,7 +119,7 @@ module _ (fit : RawParameter → Bool) where
 
   -- ---- what holds of each that fits
 
-  all_own : (p : RawParameter → Bool) → ((r : RawParameter) → fit r ≡ true → p r ≡ true) → (before : List (List ℕ)) (rs : List RawParameter) → first_faulty fit before rs ≡ none → every p (own_parameters rs) ≡ true
+  all_own : (p : RawParameter → Bool) → ((r : RawParameter) → fit r ≡ true → p r ≡ true) → (before : List (List ℕ)) (rs : List RawParameter) → first_faulty fit before rs ≡ None → every p (own_parameters rs) ≡ true
   unfolding own_parameters every pick
   all_own p f before [] h = refl
   all_own p f before (r ∷ rs) h = let e = turn before r rs h in go (is_value_parameter r) refl (sound before r e.0) (all_own p f (name_of r ∷ before) rs e.1)
@@ -135,16 +134,16 @@ each_read [] = refl
 each_read (r ∷ rs) = rw (each_read rs) (go (read_parameter r) (read_each read_parameter rs))
   where
     go : (o : Option Parameter) (q : Option (List Parameter)) → (is_read o and is_read q) ≡ is_read (and_then o (λ b. cons_read b q))
-    go none q = refl
-    go (some p) none = refl
-    go (some p) (some l) = refl
+    go None q = refl
+    go (Some p) None = refl
+    go (Some p) (Some l) = refl
 
 module _ (n : List ℕ) (t : ValueType) where
-  permitted : (r : RawParameter) → fits n (some t) r ≡ true → permits_parameter n t (name_of r) ≡ true
+  permitted : (r : RawParameter) → fits n (Some t) r ≡ true → permits_parameter n t (name_of r) ≡ true
   unfolding read_or
   permitted r h = (and_both _ _ h).0
 
-  readable : (r : RawParameter) → fits n (some t) r ≡ true → is_read (read_parameter r) ≡ true
+  readable : (r : RawParameter) → fits n (Some t) r ≡ true → is_read (read_parameter r) ≡ true
   readable r h = (and_both _ _ (and_both _ _ h).1).0
 
   -- ---- ENCODING
@@ -156,7 +155,7 @@ module _ (n : List ℕ) (t : ValueType) where
   abbrev encodes : RawParameter → Bool
   encodes r = not (same_type t BINARY and is_encoding r) or is_raw_base64_encoding r
 
-  encoded : (r : RawParameter) → fits n (some t) r ≡ true → encodes r ≡ true
+  encoded : (r : RawParameter) → fits n (Some t) r ≡ true → encodes r ≡ true
   encoded r h = (and_both _ _ (and_both _ _ h).1).1
 
   all_encoded : (rs : List RawParameter) → same_type t BINARY ≡ true → every encodes (own_parameters rs) ≡ true → any_one is_encoding rs ≡ true → any_one is_raw_base64_encoding rs ≡ true
@@ -177,31 +176,31 @@ module _ (n : List ℕ) (t : ValueType) where
           let e = and_both (encodes r) (every encodes (own_parameters rs)) k in
           or_cases (is_encoding r) (any_one is_encoding rs) a (λ z. or_left (is_raw_base64_encoding r) (any_one is_raw_base64_encoding rs) (last (same_type t BINARY) (is_encoding r) (is_raw_base64_encoding r) y z e.0)) (λ z. or_right (is_raw_base64_encoding r) (any_one is_raw_base64_encoding rs) (ih e.1 z))
 
-faultless : (o : Option ℕ) (b : Bool) → place_of_fault o b ≡ none → (o ≡ none) × (b ≡ false)
-faultless (some i) b h = some-none h
-faultless none true h = some-none h
-faultless none false h = (refl, refl)
+faultless : (o : Option ℕ) (b : Bool) → place_of_fault o b ≡ None → (o ≡ None) × (b ≡ false)
+faultless (Some i) b h = some-none h
+faultless None true h = some-none h
+faultless None false h = (refl, refl)
 
 -- what parameters without a fault have
 pub record Faultless (n : List ℕ) (rs : List RawParameter) : Type 0 where
   pub type : ValueType
-  pub stated : stated_type n rs ≡ some type
+  pub stated : stated_type n rs ≡ Some type
   pub good : parameters_good n type rs ≡ true
 
-pub faultless_good : (n : List ℕ) (rs : List RawParameter) → parameters_fault n (stated_type n rs) rs ≡ none → Faultless n rs
+pub faultless_good : (n : List ℕ) (rs : List RawParameter) → parameters_fault n (stated_type n rs) rs ≡ None → Faultless n rs
 unfolding parameters_fault parameters_good ◌and◌ ◌or◌
 faultless_good n rs h =
     let e = faultless (first_faulty (fits n (stated_type n rs)) [] rs) (lacks_encoding (stated_type n rs) rs) h in
     let s = read_some (stated_type n rs) (stated (fits n (stated_type n rs)) n [] rs e.0) in
     go s.0 s.1 (rw s.1 at e.0) (rw s.1 at e.1)
   where
-    base64 : (t : ValueType) → first_faulty (fits n (some t)) [] rs ≡ none → (b : Bool) → same_type t BINARY ≡ b → (b and not (any_one is_encoding rs)) ≡ false → (not b or any_one is_raw_base64_encoding rs) ≡ true
-    base64 t f true y k = all_encoded n t rs y (all_own (fits n (some t)) (encodes n t) (encoded n t) [] rs f) (not_no _ k)
+    base64 : (t : ValueType) → first_faulty (fits n (Some t)) [] rs ≡ None → (b : Bool) → same_type t BINARY ≡ b → (b and not (any_one is_encoding rs)) ≡ false → (not b or any_one is_raw_base64_encoding rs) ≡ true
+    base64 t f true y k = all_encoded n t rs y (all_own (fits n (Some t)) (encodes n t) (encoded n t) [] rs f) (not_no _ k)
     base64 t f false y k = refl
 
-    go : (t : ValueType) → stated_type n rs ≡ some t → first_faulty (fits n (some t)) [] rs ≡ none → lacks_encoding (some t) rs ≡ false → Faultless n rs
+    go : (t : ValueType) → stated_type n rs ≡ Some t → first_faulty (fits n (Some t)) [] rs ≡ None → lacks_encoding (Some t) rs ≡ false → Faultless n rs
     go t s f k =
-        let fit = fits n (some t) in record {
+        let fit = fits n (Some t) in record {
           type = t;
           stated = s;
           good =
@@ -217,7 +216,7 @@ module _ (fit : RawParameter → Bool) (n : List ℕ) (t : ValueType) where
   record Good (before : List (List ℕ)) (rs : List RawParameter) : Type 0 where
     fresh : every (λ (r : RawParameter). not (is_one_of (name_of r) before)) rs ≡ true
     once : distinct (map name_of rs) ≡ true
-    typed : is_one_of (ascii "VALUE") before ≡ false → stated_type n rs ≡ some t
+    typed : is_one_of (ascii "VALUE") before ≡ false → stated_type n rs ≡ Some t
     fits : every fit (own_parameters rs) ≡ true
 
   fresh_more : (before : List (List ℕ)) (w : List ℕ) (rs : List RawParameter) → every (λ (r : RawParameter). not (is_one_of (name_of r) before)) rs ≡ true → is_one_of w (map name_of rs) ≡ false →
@@ -236,7 +235,7 @@ module _ (fit : RawParameter → Bool) (n : List ℕ) (t : ValueType) where
       let f = not-true _ (every_both (λ (r : RawParameter). not (is_one_of (name_of r) before)) r rs g.fresh).0 in
       or_no _ _ f (not_off _ (go (is_value_parameter r) refl f g.typed g.fits))
     where
-      go : (b : Bool) → is_value_parameter r ≡ b → is_one_of (name_of r) before ≡ false → (is_one_of (ascii "VALUE") before ≡ false → stated_type n (r ∷ rs) ≡ some t) → every fit (own_parameters (r ∷ rs)) ≡ true →
+      go : (b : Bool) → is_value_parameter r ≡ b → is_one_of (name_of r) before ≡ false → (is_one_of (ascii "VALUE") before ≡ false → stated_type n (r ∷ rs) ≡ Some t) → every fit (own_parameters (r ∷ rs)) ≡ true →
           pick b (is_read (type_in r.values)) (fit r) ≡ true
       go true v f s e = rw (rw v at (s (rw (same_true (name_of r) (ascii "VALUE") v) at f))) (unfold is_read in refl)
       go false v f s e = (every_both fit r (own_parameters rs) (rw v at e)).0
@@ -252,8 +251,8 @@ module _ (fit : RawParameter → Bool) (n : List ℕ) (t : ValueType) where
         fits = own (is_value_parameter r) refl g.fits;
       }
     where
-      typed : (b : Bool) → is_value_parameter r ≡ b → (same (ascii "VALUE") (name_of r) ≡ false) × (is_one_of (ascii "VALUE") before ≡ false) → (is_one_of (ascii "VALUE") before ≡ false → stated_type n (r ∷ rs) ≡ some t) →
-          stated_type n rs ≡ some t
+      typed : (b : Bool) → is_value_parameter r ≡ b → (same (ascii "VALUE") (name_of r) ≡ false) × (is_one_of (ascii "VALUE") before ≡ false) → (is_one_of (ascii "VALUE") before ≡ false → stated_type n (r ∷ rs) ≡ Some t) →
+          stated_type n rs ≡ Some t
       typed true v d k = absurd (false≢true (sym (same_swap (ascii "VALUE") (name_of r) d.0) ∙ v))
       typed false v d k = rw v at (k d.1)
 
@@ -261,7 +260,7 @@ module _ (fit : RawParameter → Bool) (n : List ℕ) (t : ValueType) where
       own true v h = rw v at h
       own false v h = (every_both fit r (own_parameters rs) (rw v at h)).1
 
-  good_none : (before : List (List ℕ)) (rs : List RawParameter) → Good before rs → first_faulty fit before rs ≡ none
+  good_none : (before : List (List ℕ)) (rs : List RawParameter) → Good before rs → first_faulty fit before rs ≡ None
   unfolding first_faulty pick
   good_none before [] g = refl
   good_none before (r ∷ rs) g = rw (good_first before r rs g) (good_none (name_of r ∷ before) rs (good_rest before r rs g))
@@ -309,15 +308,15 @@ all_encode : (n : List ℕ) (t : ValueType) (rs : List RawParameter) → distinc
 unfolding every ◌and◌ ◌or◌
 all_encode n t rs d h = go (same_type t BINARY) h
   where
-    none : (rs : List RawParameter) → every (λ (r : RawParameter). not (false and is_encoding r) or is_raw_base64_encoding r) rs ≡ true
-    none [] = refl
-    none (r ∷ rs) = none rs
+    None : (rs : List RawParameter) → every (λ (r : RawParameter). not (false and is_encoding r) or is_raw_base64_encoding r) rs ≡ true
+    None [] = refl
+    None (r ∷ rs) = None rs
 
     go : (b : Bool) → (not b or any_one is_raw_base64_encoding rs) ≡ true → every (λ (r : RawParameter). not (b and is_encoding r) or is_raw_base64_encoding r) rs ≡ true
     go true k = only rs d k
-    go false k = none rs
+    go false k = None rs
 
-pub good_faultless : (n : List ℕ) (t : ValueType) (rs : List RawParameter) → stated_type n rs ≡ some t → parameters_good n t rs ≡ true → parameters_fault n (stated_type n rs) rs ≡ none
+pub good_faultless : (n : List ℕ) (t : ValueType) (rs : List RawParameter) → stated_type n rs ≡ Some t → parameters_good n t rs ≡ true → parameters_fault n (stated_type n rs) rs ≡ None
 unfolding parameters_good parameters_fault is_one_of read_or ◌and◌ ◌or◌
 good_faultless n t rs s h =
     let a = and_both (distinct (map name_of rs)) _ h in
@@ -325,13 +324,13 @@ good_faultless n t rs s h =
     let c = and_both (every (permits n t) (own_parameters rs)) _ b.1 in
     let k = own_every (encodes n t) rs (all_encode n t rs a.0 c.1) in
     let d = every-and (λ r. is_read (read_parameter r)) (encodes n t) (own_parameters rs) (each_read (own_parameters rs) ∙ b.0) k in
-    let g : Good (fits n (some t)) n t [] rs = record {
+    let g : Good (fits n (Some t)) n t [] rs = record {
       fresh = every_always (λ (r : RawParameter). not (is_one_of (name_of r) [])) (λ r. refl) rs;
       once = a.0;
       typed = λ z. s;
       fits = every-and (permits n t) (λ r. is_read (read_parameter r) and encodes n t r) (own_parameters rs) c.0 d;
     } in
-    rw (s, good_none (fits n (some t)) n t [] rs g, lacks (same_type t BINARY) c.1)
+    rw (s, good_none (fits n (Some t)) n t [] rs g, lacks (same_type t BINARY) c.1)
   where
     lacks : (y : Bool) → (not y or any_one is_raw_base64_encoding rs) ≡ true → (y and not (any_one is_encoding rs)) ≡ false
     lacks true k = rw (some_encoding rs k)
@@ -339,26 +338,26 @@ good_faultless n t rs s h =
 
 -- ---- the faulty parameter is one of the line's
 
-first_within : (fit : RawParameter → Bool) (before : List (List ℕ)) (rs : List RawParameter) (i : ℕ) → first_faulty fit before rs ≡ some i → i < length before + length rs
+first_within : (fit : RawParameter → Bool) (before : List (List ℕ)) (rs : List RawParameter) (i : ℕ) → first_faulty fit before rs ≡ Some i → i < length before + length rs
 unfolding first_faulty pick
 first_within fit before [] i h = none-some h
 first_within fit before (r ∷ rs) i h = go (is_faulty fit before r) h (first_within fit (name_of r ∷ before) rs i)
   where
-    go : (b : Bool) → pick b (some (length before)) (first_faulty fit (name_of r ∷ before) rs) ≡ some i → (first_faulty fit (name_of r ∷ before) rs ≡ some i → i < suc (length before) + length rs) → i < length before + suc (length rs)
+    go : (b : Bool) → pick b (Some (length before)) (first_faulty fit (name_of r ∷ before) rs) ≡ Some i → (first_faulty fit (name_of r ∷ before) rs ≡ Some i → i < suc (length before) + length rs) → i < length before + suc (length rs)
     go true k ih = let z : length before ≡ i = cc in omega (arith, z)
     go false k ih = let l = ih k in omega (arith, l)
 
-placed : (o : Option ℕ) (b : Bool) (i : ℕ) → place_of_fault o b ≡ some (parameter_name i) → o ≡ some i
-placed (some j) b i h = let z : j ≡ i = cc in rw z
-placed none true i h = let z : ◌≡◌ {A = ℕ} 0 1 = cc in absurd (omega arith)
-placed none false i h = none-some h
+placed : (o : Option ℕ) (b : Bool) (i : ℕ) → place_of_fault o b ≡ Some (parameter_name i) → o ≡ Some i
+placed (Some j) b i h = let z : j ≡ i = cc in rw z
+placed None true i h = let z : ◌≡◌ {A = ℕ} 0 1 = cc in absurd (omega arith)
+placed None false i h = none-some h
 
-of_parameter : (o : Option Where) (b : Bool) (w : Where) → line_fault o b ≡ some (fault PARAMETER w) → o ≡ some w
-of_parameter (some v) b w h = let z : v ≡ w = cc in rw z
-of_parameter none true w h = none-some h
-of_parameter none false w h = let z : ◌≡◌ {A = ℕ} 0 1 = cc in absurd (omega arith)
+of_parameter : (o : Option Where) (b : Bool) (w : Where) → line_fault o b ≡ Some (fault PARAMETER w) → o ≡ Some w
+of_parameter (Some v) b w h = let z : v ≡ w = cc in rw z
+of_parameter None true w h = none-some h
+of_parameter None false w h = let z : ◌≡◌ {A = ℕ} 0 1 = cc in absurd (omega arith)
 
-pub fault_within : (k : List ℕ) (l : ContentLine) (i : ℕ) → property_fault k l ≡ some (fault PARAMETER (parameter_name i)) → i < length l.parameters
+pub fault_within : (k : List ℕ) (l : ContentLine) (i : ℕ) → property_fault k l ≡ Some (fault PARAMETER (parameter_name i)) → i < length l.parameters
 unfolding fault_as parameters_fault
 fault_within k l i h =
     let n = upper l.name in

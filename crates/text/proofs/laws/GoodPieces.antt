@@ -1,9 +1,8 @@
 -- The pieces of a text, whether escaped or cut at a separator, are well formed where the text is: only whole characters of ASCII are taken away.
 --     split_good      of escaped text
 --     cut_good        of a text that is cut
-use Rattle.std.specs.Prelude.{◌≡◌, refl, Bool, true, false, List, [], ◌∷◌, ℕ, zero, suc, ◌+◌, ◌≤◌, eqb, leb}
+use Rattle.std.specs.Prelude.{◌≡◌, refl, Bool, true, false, List, [], ◌∷◌, ℕ, zero, suc, ◌+◌, ◌≤◌, eqb, leb, Option, None, Some}
 use Rattle.std.proofs.Common.{sym, ◌∙◌, arith, leb-true, ne_eqb, eqb-true}
-use Rattle.std.proofs.Math.Option.{Option, none, some}
 use Prim.{Unit, tt}
 use Rattle.std.proofs.lemmas.Bool.{lt-leb}
 use Rattle.octets.specs.Pick.{pick, within, ◌and◌, ◌or◌}
@@ -97,39 +96,39 @@ sign_cases P after c a itself lf open₁ between none₁ =
 -- ---- escaped text
 
 abbrev PiecedRead : ℕ → ℕ → ℕ → Bool → Option (List (List ℕ)) → Type 0
-PiecedRead k lo hi l none = Unit {0}
-PiecedRead k lo hi l (some ps) = Pieced k lo hi l ps
+PiecedRead k lo hi l None = Unit {0}
+PiecedRead k lo hi l (Some ps) = Pieced k lo hi l ps
 
-end_read : (after : Bool) (k lo hi : ℕ) (l : Bool) → tails k lo hi l [] ≡ true → PiecedRead k lo hi l (pick after none (some ([] ∷ [])))
+end_read : (after : Bool) (k lo hi : ℕ) (l : Bool) → tails k lo hi l [] ≡ true → PiecedRead k lo hi l (pick after None (Some ([] ∷ [])))
 unfolding pick bad_from every
 end_read true k lo hi l t = tt
 end_read false k lo hi l t = (record { begun = t; onward = λ j. refl }, refl)
 
 tail_read : (a k lo hi : ℕ) (l : Bool) (o : Option (List (List ℕ))) → within lo hi a ≡ true → PiecedRead k 0x80 (high_after l a) false o → PiecedRead (suc k) lo hi l (onto_read a o)
 unfolding onto_read
-tail_read a k lo hi l none w h = tt
-tail_read a k lo hi l (some qs) w h = onto_tail a k lo hi l qs w h
+tail_read a k lo hi l None w h = tt
+tail_read a k lo hi l (Some qs) w h = onto_tail a k lo hi l qs w h
 
 lead_read : (a lo hi : ℕ) (l : Bool) (o : Option (List (List ℕ))) → leb (more a) 3 ≡ true → PiecedRead (more a) (low a) (high a) (eqb a 0xEF) o → PiecedRead 0 lo hi l (onto_read a o)
 unfolding onto_read
-lead_read a lo hi l none w h = tt
-lead_read a lo hi l (some qs) w h = onto_lead a lo hi l qs w h
+lead_read a lo hi l None w h = tt
+lead_read a lo hi l (Some qs) w h = onto_lead a lo hi l qs w h
 
 lf_read : (x y lo hi : ℕ) (m l : Bool) (o : Option (List (List ℕ))) → PiecedRead 0 x y m o → PiecedRead 0 lo hi l (onto_read 10 o)
 unfolding onto_read
-lf_read x y lo hi m l none h = tt
-lf_read x y lo hi m l (some qs) h = onto_lf x y lo hi m l qs h
+lf_read x y lo hi m l None h = tt
+lf_read x y lo hi m l (Some qs) h = onto_lf x y lo hi m l qs h
 
 open_read : (x y lo hi : ℕ) (m l : Bool) (o : Option (List (List ℕ))) → PiecedRead 0 x y m o → PiecedRead 0 lo hi l o
-open_read x y lo hi m l none h = tt
-open_read x y lo hi m l (some qs) h = whole_again x y lo hi m l qs h
+open_read x y lo hi m l None h = tt
+open_read x y lo hi m l (Some qs) h = whole_again x y lo hi m l qs h
 
 between_read : (x y lo hi : ℕ) (m l : Bool) (o : Option (List (List ℕ))) → PiecedRead 0 x y m o → PiecedRead 0 lo hi l (cons_read [] o)
 unfolding cons_read
-between_read x y lo hi m l none h = tt
-between_read x y lo hi m l (some qs) h = with_empty x y lo hi m l qs h
+between_read x y lo hi m l None h = tt
+between_read x y lo hi m l (Some qs) h = with_empty x y lo hi m l qs h
 
-split_from_lem : (s : List ℕ) (after : Bool) (k lo hi : ℕ) (l : Bool) (i c : ℕ) → 0x80 ≤ lo → tails k lo hi l s ≡ true → bad_from k i s ≡ none → PiecedRead k lo hi l (split_from after c s)
+split_from_lem : (s : List ℕ) (after : Bool) (k lo hi : ℕ) (l : Bool) (i c : ℕ) → 0x80 ≤ lo → tails k lo hi l s ≡ true → bad_from k i s ≡ None → PiecedRead k lo hi l (split_from after c s)
 unfolding split_from tails bad_from pick
 split_from_lem [] after k lo hi l i c b t h = end_read after k lo hi l t
 split_from_lem (a ∷ s) after (suc k) lo hi l i c b t h =
@@ -141,8 +140,8 @@ split_from_lem (a ∷ s) after (suc k) lo hi l i c b t h =
     (tail_read a k lo hi l (split_from (opens after a) c s) e.0 ih) (λ z. absurd (omega arith)) (λ z. absurd (omega arith)) (λ z. absurd (omega arith)) tt
 split_from_lem (a ∷ s) after zero lo hi l i c b t h = go (is_sequence a s) refl h (split_from_lem s (opens after a) (more a) (low a) (high a) (eqb a 0xEF) (i + 1) c (low_least a))
   where
-    go : (u : Bool) → is_sequence a s ≡ u → pick u (bad_from (more a) (i + 1) s) (some i) ≡ none →
-        (tails (more a) (low a) (high a) (eqb a 0xEF) s ≡ true → bad_from (more a) (i + 1) s ≡ none → PiecedRead (more a) (low a) (high a) (eqb a 0xEF) (split_from (opens after a) c s)) →
+    go : (u : Bool) → is_sequence a s ≡ u → pick u (bad_from (more a) (i + 1) s) (Some i) ≡ None →
+        (tails (more a) (low a) (high a) (eqb a 0xEF) s ≡ true → bad_from (more a) (i + 1) s ≡ None → PiecedRead (more a) (low a) (high a) (eqb a 0xEF) (split_from (opens after a) c s)) →
         PiecedRead 0 lo hi l (with_sign (sign_of after c a) (split_from (opens after a) c s))
     go false e k ih = none-some (sym k)
     go true e k ih =
@@ -155,13 +154,13 @@ split_from_lem (a ∷ s) after zero lo hi l i c b t h = go (is_sequence a s) ref
         (λ z. between_read (low a) (high a) lo hi (eqb a 0xEF) l (split_from (opens after a) c s) (rw z at d))
         tt
 
-pub split_good : (c : ℕ) (s : List ℕ) (ps : List (List ℕ)) → first_bad s ≡ none → split_text c s ≡ some ps → every well_formed ps ≡ true
+pub split_good : (c : ℕ) (s : List ℕ) (ps : List (List ℕ)) → first_bad s ≡ None → split_text c s ≡ Some ps → every well_formed ps ≡ true
 unfolding tails
 split_good c s ps h e = pieces_good 0x80 0xBF false ps (rw e at (split_from_lem s false 0 0x80 0xBF false 0 c (omega arith) refl h))
 
 -- ---- a text that is cut
 
-cut_from : (s : List ℕ) (k lo hi : ℕ) (l : Bool) (i c : ℕ) → is_ascii c ≡ true → 0x80 ≤ lo → tails k lo hi l s ≡ true → bad_from k i s ≡ none → Pieced k lo hi l (cut_at c s)
+cut_from : (s : List ℕ) (k lo hi : ℕ) (l : Bool) (i c : ℕ) → is_ascii c ≡ true → 0x80 ≤ lo → tails k lo hi l s ≡ true → bad_from k i s ≡ None → Pieced k lo hi l (cut_at c s)
 unfolding cut_at tails bad_from pick every
 cut_from [] k lo hi l i c n b t h = (record { begun = t; onward = λ j. refl }, refl)
 cut_from (a ∷ s) (suc k) lo hi l i c n b t h =
@@ -172,8 +171,8 @@ cut_from (a ∷ s) (suc k) lo hi l i c n b t h =
     pick_case (Pieced (suc k) lo hi l) (eqb a c) ([] ∷ cut_at c s) (onto a (cut_at c s)) (λ f. let z = one_more a c n f in absurd (omega arith)) (λ f. onto_tail a k lo hi l (cut_at c s) e.0 ih)
 cut_from (a ∷ s) zero lo hi l i c n b t h = go (is_sequence a s) refl h (cut_from s (more a) (low a) (high a) (eqb a 0xEF) (i + 1) c n (low_least a))
   where
-    go : (u : Bool) → is_sequence a s ≡ u → pick u (bad_from (more a) (i + 1) s) (some i) ≡ none →
-        (tails (more a) (low a) (high a) (eqb a 0xEF) s ≡ true → bad_from (more a) (i + 1) s ≡ none → Pieced (more a) (low a) (high a) (eqb a 0xEF) (cut_at c s)) →
+    go : (u : Bool) → is_sequence a s ≡ u → pick u (bad_from (more a) (i + 1) s) (Some i) ≡ None →
+        (tails (more a) (low a) (high a) (eqb a 0xEF) s ≡ true → bad_from (more a) (i + 1) s ≡ None → Pieced (more a) (low a) (high a) (eqb a 0xEF) (cut_at c s)) →
         Pieced 0 lo hi l (pick (eqb a c) ([] ∷ cut_at c s) (onto a (cut_at c s)))
     go false e k ih = none-some (sym k)
     go true e k ih =
@@ -183,6 +182,6 @@ cut_from (a ∷ s) zero lo hi l i c n b t h = go (is_sequence a s) refl h (cut_f
         (λ g. with_empty (low a) (high a) lo hi (eqb a 0xEF) l (cut_at c s) (rw (one_more a c n g) at d))
         (λ g. onto_lead a lo hi l (cut_at c s) f.0 d)
 
-pub cut_good : (c : ℕ) (s : List ℕ) → is_ascii c ≡ true → first_bad s ≡ none → every well_formed (cut_at c s) ≡ true
+pub cut_good : (c : ℕ) (s : List ℕ) → is_ascii c ≡ true → first_bad s ≡ None → every well_formed (cut_at c s) ≡ true
 unfolding tails
 cut_good c s n h = pieces_good 0x80 0xBF false (cut_at c s) (cut_from s 0 0x80 0xBF false 0 c n (omega arith) refl h)

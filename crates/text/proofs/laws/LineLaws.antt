@@ -1,12 +1,11 @@
 -- The content line of a valid property is one that the grammar has, so that its bytes are read back as that line.
 --     line_is_line, line_read_back
-use Rattle.std.specs.Prelude.{◌≡◌, Bool, ℕ}
+use Rattle.std.specs.Prelude.{◌≡◌, Bool, ℕ, Some}
 use Rattle.std.proofs.Math.Path.{refl}
 use Rattle.std.proofs.Common.{◌∙◌}
 use Rattle.std.proofs.Math.Bool.{true, false}
 use Rattle.std.proofs.lemmas.Bool.{false≢true}
 use mathlib.Core.List.{List, [], ◌∷◌, map}
-use Rattle.std.proofs.Math.Option.{some}
 use Rattle.octets.specs.Pick.{pick, ◌and◌, ◌or◌}
 use Rattle.octets.specs.laws.Pick.{pick_no, pick_either, pick_case, and_yes, and_both, or_no, or_neither, eqb_swap}
 use Rattle.octets.specs.Scan.{all_of}
@@ -172,5 +171,5 @@ module _ (ed : Edition) where
       (and_yes _ _ (every_map is_raw_parameter (encoded_parameter ed) _ ∙ with_value_are p.name _ _ (parameters_are p.parameters s.parameters))
       (values_written k p.name (type_of_all p.values) p.values (and_both _ _ (and_both _ _ s.values).1).1 s.plain))
 
-  pub line_read_back : (k : List ℕ) (p : Property) → ValidProperty ed k p → read_line ed (write_line ed (content_line_of p)) ≡ some (content_line_of p)
+  pub line_read_back : (k : List ℕ) (p : Property) → ValidProperty ed k p → read_line ed (write_line ed (content_line_of p)) ≡ Some (content_line_of p)
   line_read_back k p s = line_back ed (content_line_of p) (line_is_line k p s)

@@ -2,11 +2,9 @@
 --     parameter_read_back, parameters_read_back   of one, and of those of a property
 --     parameter_accepted, parameters_accepted     what is read is typed as the schema says
 --     own_with_value, type_read_back              VALUE that is written is none of the parameters, and names the type
-use Rattle.std.specs.Prelude.{◌≡◌, refl, Bool, true, false, not, List, [], ◌∷◌, map, ℕ}
+use Rattle.std.specs.Prelude.{◌≡◌, refl, Bool, true, false, not, List, [], ◌∷◌, map, ℕ, Option, None, Some, option_map}
 use Rattle.std.proofs.Common.{subst, sym, ap, ◌∙◌}
 use Rattle.std.proofs.lemmas.Bool.{false≢true, not-true}
-use Rattle.std.proofs.Math.Option
-use Rattle.std.proofs.Math.Option.{Option, none, some}
 use Rattle.octets.specs.Pick.{pick, ◌and◌, ◌or◌}
 use Rattle.octets.specs.laws.Pick.{pick_yes, pick_no, and_yes, and_both, or_left, or_right}
 use Rattle.octets.specs.Class.{upper}
@@ -39,32 +37,32 @@ use Rattle.text.specs.WriteText.{param_chars, param_value_of, raw_of, value_para
 -- ---- one value
 
 -- any characters, or as the type says
-typed_read_back : (v : Value) → is_typed v ≡ true → (same_type (type_of v) UNKNOWN or is_value v) ≡ true → read_typed (type_of v) (param_chars v) ≡ some v
+typed_read_back : (v : Value) → is_typed v ≡ true → (same_type (type_of v) UNKNOWN or is_value v) ≡ true → read_typed (type_of v) (param_chars v) ≡ Some v
 unfolding same_type pick read_or write_value
-typed_read_back v t h = kept_or_valid (λ v. is_typed v ≡ true → read_typed (type_of v) (param_chars v) ≡ some v) (λ s t. refl) typed v h t
+typed_read_back v t h = kept_or_valid (λ v. is_typed v ≡ true → read_typed (type_of v) (param_chars v) ≡ Some v) (λ s t. refl) typed v h t
   where
-    typed : (v : Value) → is_value v ≡ true → is_typed v ≡ true → read_typed (type_of v) (param_chars v) ≡ some v
+    typed : (v : Value) → is_value v ≡ true → is_typed v ≡ true → read_typed (type_of v) (param_chars v) ≡ Some v
     typed v h t =
-        text_or_other (λ v. is_typed v ≡ true → is_value v ≡ true → read_typed (type_of v) (param_chars v) ≡ some v)
+        text_or_other (λ v. is_typed v ≡ true → is_value v ≡ true → read_typed (type_of v) (param_chars v) ≡ Some v)
         (λ s t h. refl)
         (λ v e n t h. other v e n t h (same_type (type_of v) UNKNOWN) refl)
         v t t h
       where
-        other : (v : Value) → text_in v ≡ none → same_type (type_of v) TEXT ≡ false → is_typed v ≡ true → is_value v ≡ true → (b : Bool) → same_type (type_of v) UNKNOWN ≡ b → read_typed (type_of v) (param_chars v) ≡ some v
-        other v e n t h true q = any_unknown (λ v. read_typed (type_of v) (param_chars v) ≡ some v) (λ s. refl) v q
+        other : (v : Value) → text_in v ≡ None → same_type (type_of v) TEXT ≡ false → is_typed v ≡ true → is_value v ≡ true → (b : Bool) → same_type (type_of v) UNKNOWN ≡ b → read_typed (type_of v) (param_chars v) ≡ Some v
+        other v e n t h true q = any_unknown (λ v. read_typed (type_of v) (param_chars v) ≡ Some v) (λ s. refl) v q
         other v e n t h false q = rw (n, q, e) (value_read_back v t h)
 
-word_read_back : (n : List ℕ) (o : Option (List (List ℕ))) (t : ValueType) (v : Value) → parameter_words n ≡ o → is_parameter_value o t v ≡ true → read_word o t (param_chars v) ≡ some v
+word_read_back : (n : List ℕ) (o : Option (List (List ℕ))) (t : ValueType) (v : Value) → parameter_words n ≡ o → is_parameter_value o t v ≡ true → read_word o t (param_chars v) ≡ Some v
 unfolding read_or
-word_read_back n none t v e h =
+word_read_back n None t v e h =
     let p = and_both (same_type (type_of v) t) (is_typed v and (same_type (type_of v) UNKNOWN or is_value v)) h in
     let q = and_both (is_typed v) (same_type (type_of v) UNKNOWN or is_value v) p.1 in
     rw (← (same_type_true (type_of v) t p.0)) (typed_read_back v q.0 q.1)
-word_read_back n (some words) t v e h = go (text_in v) refl h
+word_read_back n (Some words) t v e h = go (text_in v) refl h
   where
-    go : (x : Option (List ℕ)) → text_in v ≡ x → is_word_in words x ≡ true → provided (is_one_of (upper (read_or (write_value v) x)) words) (text (upper (read_or (write_value v) x))) ≡ some v
-    go none k h = absurd (false≢true h)
-    go (some s) k h =
+    go : (x : Option (List ℕ)) → text_in v ≡ x → is_word_in words x ≡ true → provided (is_one_of (upper (read_or (write_value v) x)) words) (text (upper (read_or (write_value v) x))) ≡ Some v
+    go None k h = absurd (false≢true h)
+    go (Some s) k h =
         let c = and_both _ _ (and_both _ _ (parameter_words_plain n words s e h)).1 in
         rw (same_true (upper s) s c.1, text_in_lem v s k) (pick_yes (is_one_of s words) _ _ h)
 
@@ -75,9 +73,9 @@ quotes_kept true b = refl
 quotes_kept false true = refl
 quotes_kept false false = refl
 
-value_written : (n : List ℕ) (v : Value) → is_parameter_value (parameter_words n) (parameter_type n) v ≡ true → read_param_value n (param_value_of n v) ≡ some v
+value_written : (n : List ℕ) (v : Value) → is_parameter_value (parameter_words n) (parameter_type n) v ≡ true → read_param_value n (param_value_of n v) ≡ Some v
 unfolding read_param_value
-value_written n v h = pick_no _ none _ (quotes_kept (is_quoted_parameter n) _) ∙ word_read_back n (parameter_words n) (parameter_type n) v refl h
+value_written n v h = pick_no _ None _ (quotes_kept (is_quoted_parameter n) _) ∙ word_read_back n (parameter_words n) (parameter_type n) v refl h
 
 -- ---- one parameter
 
@@ -93,13 +91,13 @@ parameter_of n vs = record { name = n; values = vs }
 -- of a name in capitals
 named_read_back : (n : List ℕ) (vs : List Value) → is_amount (is_listed_parameter n) vs ≡ true → every (is_parameter_value (parameter_words n) (parameter_type n)) vs ≡ true →
     pick (is_listed_parameter n or is_single (map (param_value_of n) vs))
-    (Option.map (parameter_of n) (read_each (read_param_value n) (map (param_value_of n) vs))) none
-    ≡ some (parameter_of n vs)
+    (option_map (parameter_of n) (read_each (read_param_value n) (map (param_value_of n) vs))) None
+    ≡ Some (parameter_of n vs)
 unfolding pick
 named_read_back n vs a h =
     rw (single_map (is_listed_parameter n) (param_value_of n) vs a, each_read_back (read_param_value n) (is_parameter_value (parameter_words n) (parameter_type n)) (param_value_of n) (value_written n) vs h)
 
-pub parameter_read_back : (p : Parameter) → is_parameter p ≡ true → read_parameter (raw_of p) ≡ some p
+pub parameter_read_back : (p : Parameter) → is_parameter p ≡ true → read_parameter (raw_of p) ≡ Some p
 unfolding is_parameter read_parameter
 parameter_read_back p h =
     let c = and_both (same (upper p.name) p.name) _ h in
@@ -108,11 +106,11 @@ parameter_read_back p h =
 
 -- ---- what is read is a parameter
 
-word_accepted : (o : Option (List (List ℕ))) (t : ValueType) (s : List ℕ) (v : Value) → read_word o t s ≡ some v → is_parameter_value o t v ≡ true
+word_accepted : (o : Option (List (List ℕ))) (t : ValueType) (s : List ℕ) (v : Value) → read_word o t s ≡ Some v → is_parameter_value o t v ≡ true
 unfolding pick ◌and◌
-word_accepted none t s v h = go (same_type t TEXT) refl h
+word_accepted None t s v h = go (same_type t TEXT) refl h
   where
-    other : (b : Bool) → same_type t UNKNOWN ≡ b → pick b (some (unknown s)) (read_value ical t s) ≡ some v → is_of_parameter t v ≡ true
+    other : (b : Bool) → same_type t UNKNOWN ≡ b → pick b (Some (unknown s)) (read_value ical t s) ≡ Some v → is_of_parameter t v ≡ true
     other true e k =
         let q : unknown s ≡ v = cc in
         rw (← q, same_type_true t UNKNOWN e, same_type_self UNKNOWN) (or_left _ _ refl)
@@ -120,20 +118,20 @@ word_accepted none t s v h = go (same_type t TEXT) refl h
         let a = value_accepted ical t s v k in
         rw (a.2, same_type_self t) (and_yes _ _ a.1 (or_right _ _ a.0))
 
-    go : (b : Bool) → same_type t TEXT ≡ b → pick b (some (text s)) (pick (same_type t UNKNOWN) (some (unknown s)) (read_value ical t s)) ≡ some v → is_of_parameter t v ≡ true
+    go : (b : Bool) → same_type t TEXT ≡ b → pick b (Some (text s)) (pick (same_type t UNKNOWN) (Some (unknown s)) (read_value ical t s)) ≡ Some v → is_of_parameter t v ≡ true
     go true e k =
         let q : text s ≡ v = cc in
         rw (← q, same_type_true t TEXT e, same_type_self TEXT) (or_right _ _ refl)
     go false e k = other (same_type t UNKNOWN) refl k
-word_accepted (some words) t s v h =
+word_accepted (Some words) t s v h =
     let p = provided-some (is_one_of (upper s) words) (text (upper s)) v h in
     rw (← p.1) p.0
 
-value_read : (n : List ℕ) (r : ParamValue) (v : Value) → read_param_value n r ≡ some v → is_parameter_value (parameter_words n) (parameter_type n) v ≡ true
+value_read : (n : List ℕ) (r : ParamValue) (v : Value) → read_param_value n r ≡ Some v → is_parameter_value (parameter_words n) (parameter_type n) v ≡ true
 unfolding read_param_value pick
 value_read n r v h = go (not r.quoted and is_quoted_parameter n) h
   where
-    go : (b : Bool) → pick b none (read_word (parameter_words n) (parameter_type n) r.chars) ≡ some v → is_parameter_value (parameter_words n) (parameter_type n) v ≡ true
+    go : (b : Bool) → pick b None (read_word (parameter_words n) (parameter_type n) r.chars) ≡ Some v → is_parameter_value (parameter_words n) (parameter_type n) v ≡ true
     go true k = none-some k
     go false k = word_accepted (parameter_words n) (parameter_type n) r.chars v k
 
@@ -143,7 +141,7 @@ single_amount l [] x a = absurd (false≢true (sym x))
 single_amount l (r ∷ rs) x a = a
 
 -- of a parameter with at least one value, as every parameter of a content line is
-pub parameter_accepted : (r : RawParameter) (p : Parameter) → is_value_parameter r ≡ false → is_empty r.values ≡ false → read_parameter r ≡ some p → is_parameter p ≡ true
+pub parameter_accepted : (r : RawParameter) (p : Parameter) → is_value_parameter r ≡ false → is_empty r.values ≡ false → read_parameter r ≡ Some p → is_parameter p ≡ true
 unfolding is_parameter read_parameter pick
 parameter_accepted r p x y h = go (is_listed_parameter n or is_single r.values) refl (read_each (read_param_value n) r.values) refl h
   where
@@ -151,10 +149,10 @@ parameter_accepted r p x y h = go (is_listed_parameter n or is_single r.values) 
     n = upper r.name
 
     go : (b : Bool) → (is_listed_parameter n or is_single r.values) ≡ b → (o : Option (List Value)) → read_each (read_param_value n) r.values ≡ o →
-        pick b (Option.map (parameter_of n) o) none ≡ some p → is_parameter p ≡ true
+        pick b (option_map (parameter_of n) o) None ≡ Some p → is_parameter p ≡ true
     go false a o e k = none-some k
-    go true a none e k = none-some k
-    go true a (some vs) e k =
+    go true a None e k = none-some k
+    go true a (Some vs) e k =
         let q : parameter_of n vs ≡ p = cc in
         rw (← q)
         (and_yes _ _ (rw (upper_twice r.name) (same_self n))
@@ -178,7 +176,7 @@ unfolding own_parameters pick
 own_written [] h = refl
 own_written (p ∷ ps) h = let e = every_both is_parameter p ps h in rw (parameter_own p e.0) (ap (λ (l : List RawParameter). raw_of p ∷ l) (own_written ps e.1))
 
-pub parameters_read_back : (ps : List Parameter) → every is_parameter ps ≡ true → read_parameters (map raw_of ps) ≡ some ps
+pub parameters_read_back : (ps : List Parameter) → every is_parameter ps ≡ true → read_parameters (map raw_of ps) ≡ Some ps
 parameters_read_back ps h = rw (own_written ps h) (each_read_back read_parameter is_parameter raw_of parameter_read_back ps h)
 
 -- every parameter of a content line has a value
@@ -198,7 +196,7 @@ own_have (r ∷ rs) h = let e = every_both has_value r rs h in go (is_value_para
     go true e k ih = ih
     go false e k ih = and_yes _ _ (and_yes _ _ (rw e) k) ih
 
-pub parameters_accepted : (rs : List RawParameter) (ps : List Parameter) → every has_value rs ≡ true → read_parameters rs ≡ some ps → every is_parameter ps ≡ true
+pub parameters_accepted : (rs : List RawParameter) (ps : List Parameter) → every has_value rs ≡ true → read_parameters rs ≡ Some ps → every is_parameter ps ≡ true
 parameters_accepted rs ps a h =
     each_accepted_of read_parameter is_parameter is_own
     (λ r p t e. let d = and_both (not (is_value_parameter r)) (has_value r) t in parameter_accepted r p (not-true _ d.0) (not-true _ d.1) e)
@@ -216,7 +214,7 @@ own_with_value n t rs = go (same_type t (default_type n))
     go false = refl
 
 -- where VALUE is not given, the type is the default
-stated_default : (n : List ℕ) (ps : List Parameter) → every is_parameter ps ≡ true → stated_type n (map raw_of ps) ≡ some (default_type n)
+stated_default : (n : List ℕ) (ps : List Parameter) → every is_parameter ps ≡ true → stated_type n (map raw_of ps) ≡ Some (default_type n)
 unfolding stated_type pick
 stated_default n [] h = refl
 stated_default n (p ∷ ps) h = let e = every_both is_parameter p ps h in rw (parameter_own p e.0) (stated_default n ps e.1)
@@ -245,10 +243,10 @@ unfolding stated_type octets_compute
 stated_named n t rs = refl
 
 pub type_read_back : (n : List ℕ) (t : ValueType) (ps : List Parameter) → is_type_of t (permitted_types n) ≡ true → every is_parameter ps ≡ true →
-    stated_type n (with_value n t (map raw_of ps)) ≡ some t
+    stated_type n (with_value n t (map raw_of ps)) ≡ Some t
 unfolding with_value pick
 type_read_back n t ps a h = go (same_type t (default_type n)) refl
   where
-    go : (b : Bool) → same_type t (default_type n) ≡ b → stated_type n (pick b (map raw_of ps) (value_parameter t ∷ map raw_of ps)) ≡ some t
+    go : (b : Bool) → same_type t (default_type n) ≡ b → stated_type n (pick b (map raw_of ps) (value_parameter t ∷ map raw_of ps)) ≡ Some t
     go true e = stated_default n ps h ∙ rw (← (same_type_true t (default_type n) e))
     go false e = stated_named n t (map raw_of ps) ∙ rw (name_capitals t) (type_name_read_back t (other_named n t a e))

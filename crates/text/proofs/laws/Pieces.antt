@@ -1,8 +1,7 @@
 -- A text in pieces, whether escaped or cut at a separator: no piece holds a byte that the text does not.
 --     split_without    of escaped text, for a byte that is not LF
 --     cut_without      of a text that is cut
-use Rattle.std.specs.Prelude.{◌≡◌, refl, Bool, true, false, not, List, [], ◌∷◌, ℕ, eqb}
-use Rattle.std.proofs.Math.Option.{Option, none, some}
+use Rattle.std.specs.Prelude.{◌≡◌, refl, Bool, true, false, not, List, [], ◌∷◌, ℕ, eqb, Option, None, Some}
 use Rattle.std.proofs.lemmas.Bool.{not-true}
 use Rattle.octets.specs.Pick.{pick, ◌or◌}
 use Rattle.octets.specs.laws.Pick.{pick_either}
@@ -12,8 +11,8 @@ use Rattle.octets.specs.Reading.{cons_read}
 use Rattle.texts.specs.Text.{Sign, char, opening, separator, fault, is_escaped, is_break, sign_of, opens, onto_read, with_sign, split_from, split_text}
 
 none_read : ℕ → Option (List (List ℕ)) → Bool
-none_read x none = true
-none_read x (some ps) = none_holds x ps
+none_read x None = true
+none_read x (Some ps) = none_holds x ps
 
 onto_without : (x b : ℕ) (ps : List (List ℕ)) → eqb x b ≡ false → none_holds x ps ≡ true → none_holds x (onto b ps) ≡ true
 unfolding onto none_holds holds pick ◌or◌
@@ -47,11 +46,11 @@ sign_clears x after c b l e =
 
 sign_without : (x : ℕ) (g : Sign) (o : Option (List (List ℕ))) → clears x g ≡ true → none_read x o ≡ true → none_read x (with_sign g o) ≡ true
 unfolding clears none_read onto_read cons_read none_holds holds pick
-sign_without x (char b) none e h = refl
-sign_without x (char b) (some ps) e h = onto_without x b ps (not-true (eqb x b) e) h
+sign_without x (char b) None e h = refl
+sign_without x (char b) (Some ps) e h = onto_without x b ps (not-true (eqb x b) e) h
 sign_without x opening o e h = h
-sign_without x separator none e h = refl
-sign_without x separator (some ps) e h = h
+sign_without x separator None e h = refl
+sign_without x separator (Some ps) e h = h
 sign_without x fault o e h = refl
 
 from_without : (x : ℕ) (c : ℕ) → eqb x 10 ≡ false → (s : List ℕ) (after : Bool) → holds x s ≡ false → none_read x (split_from after c s) ≡ true
@@ -63,6 +62,6 @@ from_without x c l (b ∷ s) after h =
     sign_without x (sign_of after c b) (split_from (opens after b) c s) (sign_clears x after c b l e.0) (from_without x c l s (opens after b) e.1)
 
 -- x is not LF, for which `\n` stands
-pub split_without : (x c : ℕ) (s : List ℕ) (ps : List (List ℕ)) → eqb x 10 ≡ false → holds x s ≡ false → split_text c s ≡ some ps → none_holds x ps ≡ true
+pub split_without : (x c : ℕ) (s : List ℕ) (ps : List (List ℕ)) → eqb x 10 ≡ false → holds x s ≡ false → split_text c s ≡ Some ps → none_holds x ps ≡ true
 unfolding none_read
 split_without x c s ps l h e = rw e at (from_without x c l s false h)

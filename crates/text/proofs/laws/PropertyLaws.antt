@@ -2,9 +2,8 @@
 --     parameters_good_lem   the parameters of a property are good where they are written
 --     property_read_back    the line of a property states that property
 --     property_no_fault     and is not refused
-use Rattle.std.specs.Prelude.{◌≡◌, refl, Bool, true, false, not, List, [], ◌∷◌, map, ℕ}
+use Rattle.std.specs.Prelude.{◌≡◌, refl, Bool, true, false, not, List, [], ◌∷◌, map, ℕ, Option, None, Some}
 use Rattle.std.proofs.lemmas.Bool.{false≢true}
-use Rattle.std.proofs.Math.Option.{Option, none, some}
 use Rattle.octets.specs.Ascii.{ascii}
 use Rattle.octets.specs.Pick.{pick, ◌and◌}
 use Rattle.octets.specs.laws.Pick.{pick_either, and_yes, and_both, or_no, or_left, or_right, or_cases}
@@ -66,8 +65,8 @@ unfolding is_one_of read_or
 word_written n w v c h = go (text_in v) h
   where
     go : (x : Option (List ℕ)) → is_word_in (w ∷ []) x ≡ true → (same (upper (read_or (write_value v) x)) w and true) ≡ true
-    go none h = absurd (false≢true h)
-    go (some s) h =
+    go None h = absurd (false≢true h)
+    go (Some s) h =
         let e : s ≡ w = or_cases (same s w) false h (same_true s w) (λ z. absurd (false≢true z)) in
         rw (e, c) (and_yes _ _ (same_self w) refl)
 
@@ -115,7 +114,7 @@ permitted_written n t (p ∷ ps) h a =
     let d = every_both (λ (p : Parameter). permits_parameter n t p.name) p ps a in
     and_yes _ _ (rw (parameter_name p e.0) d.0) (permitted_written n t ps e.1 d.1)
 
-pub parameters_with_value : (n : List ℕ) (t : ValueType) (ps : List Parameter) → every is_parameter ps ≡ true → read_parameters (with_value n t (map raw_of ps)) ≡ some ps
+pub parameters_with_value : (n : List ℕ) (t : ValueType) (ps : List Parameter) → every is_parameter ps ≡ true → read_parameters (with_value n t (map raw_of ps)) ≡ Some ps
 parameters_with_value n t ps h = rw (own_with_value n t (map raw_of ps)) (parameters_read_back ps h)
 
 pub parameters_good_lem : (n : List ℕ) (t : ValueType) (ps : List Parameter) → are_parameters n t ps ≡ true → parameters_good n t (with_value n t (map raw_of ps)) ≡ true
@@ -149,7 +148,7 @@ module _ (k : List ℕ) (p : Property) (h : is_property k p ≡ true) where
   unfolding is_property
   values_are = (and_both _ _ (and_both _ _ h).1).1
 
-  type_stated : stated_type p.name (with_value p.name (type_of_all p.values) (map raw_of p.parameters)) ≡ some (type_of_all p.values)
+  type_stated : stated_type p.name (with_value p.name (type_of_all p.values) (map raw_of p.parameters)) ≡ Some (type_of_all p.values)
   unfolding are_values_of
   type_stated = type_read_back p.name (type_of_all p.values) p.parameters (and_both _ _ values_are).0 each_is
 
@@ -158,7 +157,7 @@ module _ (k : List ℕ) (p : Property) (h : is_property k p ≡ true) where
   property_read_back =
       rw (name_is, parameters_with_value p.name (type_of_all p.values) p.parameters each_is, type_stated, values_read_back k p.name p.values values_are)
 
-  pub property_no_fault : property_fault k (content_line_of p) ≡ none
+  pub property_no_fault : property_fault k (content_line_of p) ≡ None
   unfolding fault_as content_line_of is_read read_or
   property_no_fault =
       let rs = with_value p.name (type_of_all p.values) (map raw_of p.parameters) in

@@ -1,13 +1,12 @@
 -- The canonical text of a calendar is read back as that calendar.
 --     text_written    the canonical text is the lines of the calendar, each folded
 --     text_back       it is accepted, and states the calendar, where it is not over the limit and the work room is long enough
-use Rattle.std.specs.Prelude.{◌≡◌, Bool, not, ℕ, ◌-◌, ◌≤◌, length}
+use Rattle.std.specs.Prelude.{◌≡◌, Bool, not, ℕ, ◌-◌, ◌≤◌, length, None}
 use Rattle.std.proofs.Math.Path.{refl, sym, ap}
 use Rattle.std.proofs.Common.{◌∙◌}
 use Rattle.std.proofs.Math.Bool.{true, false}
 use Rattle.std.proofs.lemmas.Bool.{false≢true}
 use mathlib.Core.List.{List, [], ◌∷◌}
-use Rattle.std.proofs.Math.Option.{none}
 use borrow.Author.Tests.{le-leb, not-true}
 use Rattle.octets.specs.Pick.{pick, ◌and◌, ◌or◌}
 use Rattle.octets.specs.laws.Pick.{pick_no, and_yes, and_both}
@@ -82,7 +81,7 @@ module _ (ed : Edition) where
   record Good (s : List ℕ) : Type 0 where
     return : holds 13 s ≡ false
     blank : blank_at s ≡ false
-    good : first_bad s ≡ none
+    good : first_bad s ≡ None
 
   good_line : (s : List ℕ) → is_good_line s ≡ true → Good s
   unfolding is_good_line
@@ -101,11 +100,11 @@ module _ (ed : Edition) where
   lines_no_blank [] h = refl
   lines_no_blank (l ∷ ls) h = let a = every_both is_good_line l ls h in pick_no _ _ _ (good_line l a.0).blank ∙ lines_no_blank ls a.1
 
-  break_good : first_bad crlf ≡ none
+  break_good : first_bad crlf ≡ None
   unfolding bad_from pick ◌and◌ ◌or◌
   break_good = ascii_first 13 0 (10 ∷ []) refl ∙ ascii_first 10 1 [] refl
 
-  lines_good : (ls : List (List ℕ)) → every is_good_line ls ≡ true → first_bad (plain_text ls) ≡ none
+  lines_good : (ls : List (List ℕ)) → every is_good_line ls ≡ true → first_bad (plain_text ls) ≡ None
   unfolding joined bad_from
   lines_good [] h = refl
   lines_good (l ∷ ls) h =
@@ -119,7 +118,7 @@ module _ (ed : Edition) where
   not_empty no_more e p h = absurd (false≢true h)
   not_empty (component k ps inner next) e p h = refl
 
-  kept_fine : (u : List ℕ) (ls : List Line) → first_bad u ≡ none → lines u ≡ ls → lines_verdict ed (length u) ls ≡ fine → kept_verdict ed u ≡ fine
+  kept_fine : (u : List ℕ) (ls : List Line) → first_bad u ≡ None → lines u ≡ ls → lines_verdict ed (length u) ls ≡ fine → kept_verdict ed u ≡ fine
   unfolding kept_verdict ◌otherwise◌
   kept_fine u ls b l h = rw (b, l) h
 

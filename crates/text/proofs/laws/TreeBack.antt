@@ -3,13 +3,11 @@
 --     entry             what a line is
 --     begin_line_lem, end_line_lem, property_line_lem  these lines are read as content lines
 --     tree_back         the components that the lines of a calendar state, wherever they stand
-use Rattle.std.specs.Prelude.{◌≡◌, Bool, true, ℕ, suc, ◌+◌, ◌-◌}
+use Rattle.std.specs.Prelude.{◌≡◌, Bool, true, ℕ, suc, ◌+◌, ◌-◌, Some, option_map}
 use Rattle.std.proofs.Math.Path.{refl, ap}
 use Rattle.std.proofs.Common.{sym, ◌∙◌}
 use Rattle.std.proofs.Math.Bool.{false}
 use mathlib.Core.List.{List, [], ◌∷◌, map}
-use Rattle.std.proofs.Math.Option
-use Rattle.std.proofs.Math.Option.{some}
 use Rattle.std.proofs.Math.ListN.{length}
 use Rattle.octets.specs.Ascii.{ascii}
 use Rattle.octets.specs.Pick.{pick}
@@ -73,10 +71,10 @@ end_written : (k : List ℕ) → write_content_line (framing (ascii "END") k) �
 unfolding write_content_line joined ◌⊕◌
 end_written k = refl
 
-begin_content : (k : List ℕ) → all_of is_visible k ≡ true → content_line (begin_of k) ≡ some (framing (ascii "BEGIN") k)
+begin_content : (k : List ℕ) → all_of is_visible k ≡ true → content_line (begin_of k) ≡ Some (framing (ascii "BEGIN") k)
 begin_content k h = ap content_line (sym (begin_written k)) ∙ content_line_read_back (framing (ascii "BEGIN") k) (framing_line (ascii "BEGIN") k begin_name h)
 
-end_content : (k : List ℕ) → all_of is_visible k ≡ true → content_line (end_of k) ≡ some (framing (ascii "END") k)
+end_content : (k : List ℕ) → all_of is_visible k ≡ true → content_line (end_of k) ≡ Some (framing (ascii "END") k)
 end_content k h = ap content_line (sym (end_written k)) ∙ content_line_read_back (framing (ascii "END") k) (framing_line (ascii "END") k end_name h)
 
 module _ (ed : Edition) where
@@ -96,13 +94,13 @@ module _ (ed : Edition) where
   abbrev pub lines_of : Components → List (List ℕ)
   lines_of c = lines_before c []
 
-  pub begin_line_lem : (k : List ℕ) → all_of is_visible k ≡ true → read_line ed (begin_of k) ≡ some (framing (ascii "BEGIN") k)
-  begin_line_lem k h = ap (Option.map (decoded_line ed)) (begin_content k h)
+  pub begin_line_lem : (k : List ℕ) → all_of is_visible k ≡ true → read_line ed (begin_of k) ≡ Some (framing (ascii "BEGIN") k)
+  begin_line_lem k h = ap (option_map (decoded_line ed)) (begin_content k h)
 
-  pub end_line_lem : (k : List ℕ) → all_of is_visible k ≡ true → read_line ed (end_of k) ≡ some (framing (ascii "END") k)
-  end_line_lem k h = ap (Option.map (decoded_line ed)) (end_content k h)
+  pub end_line_lem : (k : List ℕ) → all_of is_visible k ≡ true → read_line ed (end_of k) ≡ Some (framing (ascii "END") k)
+  end_line_lem k h = ap (option_map (decoded_line ed)) (end_content k h)
 
-  pub property_line_lem : (k : List ℕ) (p : Property) → ValidProperty ed k p → read_line ed (line_of p) ≡ some (content_line_of p)
+  pub property_line_lem : (k : List ℕ) (p : Property) → ValidProperty ed k p → read_line ed (line_of p) ≡ Some (content_line_of p)
   property_line_lem k p s = line_read_back ed k p s
 
   -- ---- entries
@@ -110,11 +108,11 @@ module _ (ed : Edition) where
   pub entry : List ℕ → Entry
   entry s = entry_by (read_line ed s)
 
-  begin_by : (k : List ℕ) → entry_by (some (framing (ascii "BEGIN") k)) ≡ begin (upper k)
+  begin_by : (k : List ℕ) → entry_by (Some (framing (ascii "BEGIN") k)) ≡ begin (upper k)
   unfolding entry_by octets_compute
   begin_by k = refl
 
-  end_by : (k : List ℕ) → entry_by (some (framing (ascii "END") k)) ≡ end
+  end_by : (k : List ℕ) → entry_by (Some (framing (ascii "END") k)) ≡ end
   unfolding entry_by octets_compute
   end_by k = refl
 

@@ -2,10 +2,9 @@
 --     turned ps seen     the properties ps, the last first, in front of those seen before
 --     complete-turned, complete-turned_back    what is complete in one order is complete in the other
 --     method_turned      and METHOD stands in both or in none
-use Rattle.std.specs.Prelude.{◌≡◌, refl, Bool, true, false, List, [], ◌∷◌, ℕ, suc, ◌+◌, ◌≤◌}
+use Rattle.std.specs.Prelude.{◌≡◌, refl, Bool, true, false, List, [], ◌∷◌, ℕ, suc, ◌+◌, ◌≤◌, Option, None, Some}
 use Rattle.std.proofs.Common.{sym, ◌∙◌, arith}
 use Rattle.std.proofs.lemmas.Bool.{false≢true}
-use Rattle.std.proofs.Math.Option.{Option, none, some}
 use Rattle.octets.specs.Ascii.{ascii}
 use Rattle.octets.specs.Pick.{pick}
 use Rattle.octets.specs.laws.Pick.{and_both}
@@ -49,15 +48,15 @@ alarm_rows : every (λ r. is_once_in r.occurrences) alarm_table ≡ true
 unfolding octets_compute standing
 alarm_rows = refl
 
-alarm_once : (a : Option (List ℕ)) (os : List Occurrence) → and_then a alarm_occurrences ≡ some os → is_once_in os ≡ true
+alarm_once : (a : Option (List ℕ)) (os : List Occurrence) → and_then a alarm_occurrences ≡ Some os → is_once_in os ≡ true
 unfolding alarm_occurrences
 alarm_once a os e =
     let f = and_then-some a alarm_occurrences os e in
-    let g = and_then-some (row_of (λ r. r.action) f.0 alarm_table) (λ r. some r.occurrences) os f.2 in
+    let g = and_then-some (row_of (λ r. r.action) f.0 alarm_table) (λ r. Some r.occurrences) os f.2 in
     let q : g.0.occurrences ≡ os = cc in
     rw (← q) (row_passes (λ r. r.action) f.0 (λ r. is_once_in r.occurrences) alarm_table g.0 alarm_rows g.1)
 
-listed_once : (c : List ℕ) (ps : List Property) (os : List Occurrence) → is_alarm c ≡ true → list_for c ps ≡ some os → is_once_in os ≡ true
+listed_once : (c : List ℕ) (ps : List Property) (os : List Occurrence) → is_alarm c ≡ true → list_for c ps ≡ Some os → is_once_in os ≡ true
 unfolding pick
 listed_once c ps os a h = alarm_once (action_of ps) os (rw a at h)
 
@@ -70,17 +69,17 @@ unfolding complete
 action_once c ps sub a h = go (list_for c ps) refl (and_both _ _ h).0
   where
     go : (o : Option (List Occurrence)) → list_for c ps ≡ o → often_for o ps ≡ true → tally action ps ≤ 1
-    go none e k = absurd (false≢true k)
-    go (some os) e k = once_short (occurrence_in os action).most (tally action ps) (listed_once c ps os a e) (and_both _ _ (often_at_lem property_names os ps action k action_known)).1
+    go None e k = absurd (false≢true k)
+    go (Some os) e k = once_short (occurrence_in os action).most (tally action ps) (listed_once c ps os a e) (and_both _ _ (often_at_lem property_names os ps action k action_known)).1
 
 -- ---- the word of ACTION
 
-no_action : (ps : List Property) → tally action ps ≡ 0 → action_of ps ≡ none
+no_action : (ps : List Property) → tally action ps ≡ 0 → action_of ps ≡ None
 unfolding tally action_of pick
 no_action [] h = refl
 no_action (p ∷ ps) h = go (same action p.name) h (no_action ps)
   where
-    go : (b : Bool) → pick b (suc (tally action ps)) (tally action ps) ≡ 0 → (tally action ps ≡ 0 → action_of ps ≡ none) → pick b (first_text p.values) (action_of ps) ≡ none
+    go : (b : Bool) → pick b (suc (tally action ps)) (tally action ps) ≡ 0 → (tally action ps ≡ 0 → action_of ps ≡ None) → pick b (first_text p.values) (action_of ps) ≡ None
     go true k ih = absurd (omega arith)
     go false k ih = ih k
 

@@ -1,10 +1,8 @@
 -- The values of a property that are written are read back.
 --     values_read_back    of any property, in any component
-use Rattle.std.specs.Prelude.{◌≡◌, refl, Bool, true, false, not, List, [], ◌∷◌, map, ℕ}
+use Rattle.std.specs.Prelude.{◌≡◌, refl, Bool, true, false, not, List, [], ◌∷◌, map, ℕ, Option, None, Some, option_map}
 use Rattle.std.proofs.Common.{sym, subst, ◌∙◌}
 use Rattle.std.proofs.lemmas.Bool.{false≢true, not-true}
-use Rattle.std.proofs.Math.Option
-use Rattle.std.proofs.Math.Option.{Option, none, some}
 use Rattle.octets.specs.Ascii.{ascii}
 use Rattle.octets.specs.Pick.{pick, ◌and◌, ◌or◌}
 use Rattle.octets.specs.laws.Pick.{pick_yes, and_both, pick_first, eqb_apart}
@@ -45,12 +43,12 @@ use Rattle.text.specs.Values.{one_value, read_listed, read_chosen, read_own, rea
 
 -- ---- one value
 
-one_read_back : (read : List ℕ → Option Value) (p : Value → Bool) → ((v : Value) → p v ≡ true → read (write_value v) ≡ some v) →
-    (vs : List Value) → is_amount false vs ≡ true → every p vs ≡ true → one_value (read (write_values vs)) ≡ some vs
+one_read_back : (read : List ℕ → Option Value) (p : Value → Bool) → ((v : Value) → p v ≡ true → read (write_value v) ≡ Some v) →
+    (vs : List Value) → is_amount false vs ≡ true → every p vs ≡ true → one_value (read (write_values vs)) ≡ Some vs
 one_read_back read p one vs a h =
-    only_one (λ (l : List Value). every p l ≡ true → one_value (read (write_values l)) ≡ some l) (λ v k. rw (one_written v, one v (every_both p v [] k).0)) vs a h
+    only_one (λ (l : List Value). every p l ≡ true → one_value (read (write_values l)) ≡ Some l) (λ v k. rw (one_written v, one v (every_both p v [] k).0)) vs a h
 
-typed_read : (t : ValueType) (v : Value) → is_of_type t v ≡ true → read_value ical t (write_value v) ≡ some v
+typed_read : (t : ValueType) (v : Value) → is_of_type t v ≡ true → read_value ical t (write_value v) ≡ Some v
 typed_read t v h =
     let p = and_both (same_type (type_of v) t) (is_typed v and is_value v) h in
     let q = and_both (is_typed v) (is_value v) p.1 in
@@ -66,14 +64,14 @@ unfolding write_text all_of ◌⊕◌
 word_written [] h = refl
 word_written (b ∷ s) h = let e = pick_first (is_word_char b) (all_of is_word_char s) h in rw (word_char b e.0, word_written s e.1)
 
-chosen_read : (k n : List ℕ) (o : Option (List (List ℕ))) (t : ValueType) (v : Value) → property_words k n ≡ o → is_chosen o t v ≡ true → read_chosen o t (write_value v) ≡ some v
+chosen_read : (k n : List ℕ) (o : Option (List (List ℕ))) (t : ValueType) (v : Value) → property_words k n ≡ o → is_chosen o t v ≡ true → read_chosen o t (write_value v) ≡ Some v
 unfolding write_value
-chosen_read k n none t v e h = typed_read t v h
-chosen_read k n (some words) t v e h = go (text_in v) refl h
+chosen_read k n None t v e h = typed_read t v h
+chosen_read k n (Some words) t v e h = go (text_in v) refl h
   where
-    go : (x : Option (List ℕ)) → text_in v ≡ x → is_word_in words x ≡ true → provided (is_one_of (upper (write_value v)) words) (text (upper (write_value v))) ≡ some v
-    go none x h = absurd (false≢true h)
-    go (some s) x h =
+    go : (x : Option (List ℕ)) → text_in v ≡ x → is_word_in words x ≡ true → provided (is_one_of (upper (write_value v)) words) (text (upper (write_value v))) ≡ Some v
+    go None x h = absurd (false≢true h)
+    go (Some s) x h =
         let c = and_both _ _ (and_both _ _ (property_words_plain k n words s e h)).1 in
         rw (text_in_lem v s x, word_written s c.0, same_true (upper s) s c.1) (pick_yes (is_one_of s words) _ _ h)
 
@@ -95,22 +93,22 @@ only_type t u h = go (same_type t u) refl h
     go true e k = same_type_true t u e
     go false e k = absurd (false≢true k)
 
-geo_read : (v : Value) → is_own_value FLOAT v ≡ true → read_geo (write_value v) ≡ some v
+geo_read : (v : Value) → is_own_value FLOAT v ≡ true → read_geo (write_value v) ≡ Some v
 unfolding same_type write_value
 geo_read v h =
     let p = and_both (same_type (type_of v) FLOAT) _ h in
     let q = and_both (not (is_typed v)) (is_value v) p.1 in
-    own_value (λ v. same_type (type_of v) FLOAT ≡ true → read_geo (write_value v) ≡ some v)
+    own_value (λ v. same_type (type_of v) FLOAT ≡ true → read_geo (write_value v) ≡ Some v)
     (λ la lo a b e. geo_read_back la lo a b)
     (λ c d x e. absurd (false≢true e))
     v (not-true _ q.0) q.1 p.0
 
-status_read : (v : Value) → is_own_value TEXT v ≡ true → read_request_status (write_value v) ≡ some v
+status_read : (v : Value) → is_own_value TEXT v ≡ true → read_request_status (write_value v) ≡ Some v
 unfolding same_type write_value
 status_read v h =
     let p = and_both (same_type (type_of v) TEXT) _ h in
     let q = and_both (not (is_typed v)) (is_value v) p.1 in
-    own_value (λ v. same_type (type_of v) TEXT ≡ true → read_request_status (write_value v) ≡ some v)
+    own_value (λ v. same_type (type_of v) TEXT ≡ true → read_request_status (write_value v) ≡ Some v)
     (λ la lo a b e. absurd (false≢true e))
     (λ c d x e. request_status_read_back c d x)
     v (not-true _ q.0) q.1 p.0
@@ -136,13 +134,13 @@ unfolding write_value
 texts_written [] = refl
 texts_written (t ∷ ts) = rw (texts_written ts)
 
-texts_listed : (t : List ℕ) (ts : List (List ℕ)) → Option.map (map text) (read_texts (write_values (map text (t ∷ ts)))) ≡ some (map text (t ∷ ts))
+texts_listed : (t : List ℕ) (ts : List (List ℕ)) → option_map (map text) (read_texts (write_values (map text (t ∷ ts)))) ≡ Some (map text (t ∷ ts))
 unfolding write_values
 texts_listed t ts = rw (texts_written (t ∷ ts), texts_read_back t ts)
 
-texts_read : (v : Value) (vs : List Value) → every (is_of_type TEXT) (v ∷ vs) ≡ true → Option.map (map text) (read_texts (write_values (v ∷ vs))) ≡ some (v ∷ vs)
+texts_read : (v : Value) (vs : List Value) → every (is_of_type TEXT) (v ∷ vs) ≡ true → option_map (map text) (read_texts (write_values (v ∷ vs))) ≡ Some (v ∷ vs)
 texts_read v vs h =
-    subst (λ (l : List Value). Option.map (map text) (read_texts (write_values l)) ≡ some l) (texts_of (v ∷ vs) h) (texts_listed (read_or [] (text_in v)) (texts_in vs))
+    subst (λ (l : List Value). option_map (map text) (read_texts (write_values l)) ≡ Some l) (texts_of (v ∷ vs) h) (texts_listed (read_or [] (text_in v)) (texts_in vs))
 
 -- ---- lists of DATE, DATE-TIME and PERIOD
 
@@ -187,39 +185,39 @@ typed_no_comma t l n v h =
     no_comma v q.0 q.1 (rw u l) (rw u n)
 
 parted_read : (t : ValueType) → is_listed_type t ≡ true → same_type t TEXT ≡ false → (v : Value) (vs : List Value) → every (is_of_type t) (v ∷ vs) ≡ true →
-    read_each (read_value ical t) (cut_at 44 (write_values (v ∷ vs))) ≡ some (v ∷ vs)
+    read_each (read_value ical t) (cut_at 44 (write_values (v ∷ vs))) ≡ Some (v ∷ vs)
 unfolding write_values
 parted_read t l n v vs h =
     rw (cut_joined 44 (write_value v) (map write_value vs) (none_holds_lem (is_of_type t) write_value 44 (typed_no_comma t l n) (v ∷ vs) h)) (each_read_back (read_value ical t) (is_of_type t) write_value (typed_read t) (v ∷ vs) h)
 
-listed_read : (t : ValueType) → is_listed_type t ≡ true → (vs : List Value) → is_amount true vs ≡ true → every (is_of_type t) vs ≡ true → read_listed t (write_values vs) ≡ some vs
+listed_read : (t : ValueType) → is_listed_type t ≡ true → (vs : List Value) → is_amount true vs ≡ true → every (is_of_type t) vs ≡ true → read_listed t (write_values vs) ≡ Some vs
 unfolding pick
 listed_read t l [] a h = absurd (false≢true a)
 listed_read t l (v ∷ vs) a h = go (same_type t TEXT) refl
   where
-    go : (b : Bool) → same_type t TEXT ≡ b → pick b (Option.map (map text) (read_texts (write_values (v ∷ vs)))) (read_each (read_value ical t) (cut_at 44 (write_values (v ∷ vs)))) ≡ some (v ∷ vs)
+    go : (b : Bool) → same_type t TEXT ≡ b → pick b (option_map (map text) (read_texts (write_values (v ∷ vs)))) (read_each (read_value ical t) (cut_at 44 (write_values (v ∷ vs)))) ≡ Some (v ∷ vs)
     go true e = texts_read v vs (rw (same_type_true t TEXT e) at h)
     go false e = parted_read t l e v vs h
 
 -- ---- the values of a property
 
 -- what takes a list has no closed set
-pub listed_unchosen : (k n : List ℕ) → is_listed_property n ≡ true → property_words k n ≡ none
+pub listed_unchosen : (k n : List ℕ) → is_listed_property n ≡ true → property_words k n ≡ None
 listed_unchosen k n l = go (property_words k n) refl
   where
-    go : (o : Option (List (List ℕ))) → property_words k n ≡ o → o ≡ none
-    go none e = refl
-    go (some words) e = absurd (false≢true (sym (property_words_text k n words e).1 ∙ l))
+    go : (o : Option (List (List ℕ))) → property_words k n ≡ o → o ≡ None
+    go None e = refl
+    go (Some words) e = absurd (false≢true (sym (property_words_text k n words e).1 ∙ l))
 
 own_read_back : (k n : List ℕ) (t : ValueType) (vs : List Value) → is_type_of t (permitted_types n) ≡ true → is_amount (is_listed_property n) vs ≡ true →
-    every (is_property_value k n t) vs ≡ true → read_own k n t (write_values vs) ≡ some vs
+    every (is_property_value k n t) vs ≡ true → read_own k n t (write_values vs) ≡ Some vs
 unfolding pick ◌or◌
 own_read_back k n t vs p a h = go (same n (ascii "GEO")) refl (same n (ascii "REQUEST-STATUS")) refl (is_listed_property n) refl a h
   where
     go : (g : Bool) → same n (ascii "GEO") ≡ g → (r : Bool) → same n (ascii "REQUEST-STATUS") ≡ r → (l : Bool) → is_listed_property n ≡ l → is_amount l vs ≡ true →
         every (λ v. pick (g or r) (is_own_value t v) (is_chosen (property_words k n) t v)) vs ≡ true →
         pick g (one_value (read_geo (write_values vs))) (pick r (one_value (read_request_status (write_values vs)))
-        (pick l (read_listed t (write_values vs)) (one_value (read_chosen (property_words k n) t (write_values vs))))) ≡ some vs
+        (pick l (read_listed t (write_values vs)) (one_value (read_chosen (property_words k n) t (write_values vs))))) ≡ Some vs
     go true e r f l x a h =
         let c = geo_row n e in
         let u : t ≡ FLOAT = only_type t FLOAT (rw c.0 at p) in
@@ -235,12 +233,12 @@ own_read_back k n t vs p a h = go (same n (ascii "GEO")) refl (same n (ascii "RE
         one_read_back (read_chosen (property_words k n) t) (is_chosen (property_words k n) t) (λ v c. chosen_read k n (property_words k n) t v refl c) vs a h
 
 -- of a type that the property permits
-pub values_of_read_back : (k n : List ℕ) (t : ValueType) (vs : List Value) → are_values_of k n t vs ≡ true → read_values k n t (write_values vs) ≡ some vs
+pub values_of_read_back : (k n : List ℕ) (t : ValueType) (vs : List Value) → are_values_of k n t vs ≡ true → read_values k n t (write_values vs) ≡ Some vs
 unfolding are_values_of read_values
 values_of_read_back k n t vs h =
     let p = and_both (is_type_of t (permitted_types n)) _ h in
     let q = and_both (is_amount (is_listed_property n) vs) _ p.1 in
-    pick_yes (is_type_of t (permitted_types n)) _ none p.0 ∙ own_read_back k n t vs p.0 q.0 q.1
+    pick_yes (is_type_of t (permitted_types n)) _ None p.0 ∙ own_read_back k n t vs p.0 q.0 q.1
 
-pub values_read_back : (k n : List ℕ) (vs : List Value) → are_property_values k n vs ≡ true → read_values k n (type_of_all vs) (write_values vs) ≡ some vs
+pub values_read_back : (k n : List ℕ) (vs : List Value) → are_property_values k n vs ≡ true → read_values k n (type_of_all vs) (write_values vs) ≡ Some vs
 values_read_back k n vs h = values_of_read_back k n (type_of_all vs) vs h

@@ -1,13 +1,12 @@
 -- The lines of a calendar as bytes: no CR stands in one, none begins with a blank, and their characters are well formed.
 --     line_passes      what holds of bytes that show, and of joined bytes where it holds of both, holds of a content line where it holds of its values
 --     is_good_line     such a line;   begin_good, end_good, property_good
-use Rattle.std.specs.Prelude.{◌≡◌, Bool, false, not, ℕ}
+use Rattle.std.specs.Prelude.{◌≡◌, Bool, false, not, ℕ, Option, None, Some}
 use Rattle.std.proofs.Math.Path.{refl}
 use Rattle.std.proofs.Common.{◌∙◌, arith, ne_eqb}
 use Rattle.std.proofs.Math.Bool.{true}
 use Rattle.std.proofs.lemmas.Bool.{false≢true}
 use mathlib.Core.List.{List, [], ◌∷◌, map}
-use Rattle.std.proofs.Math.Option.{Option, none, some}
 use Rattle.octets.specs.Ascii.{ascii}
 use Rattle.octets.specs.Pick.{pick, ◌and◌, ◌or◌}
 use Rattle.octets.specs.laws.Pick.{pick_either, pick_second, and_yes, and_both, and_no_left, or_no, within_range}
@@ -130,15 +129,15 @@ name_no_blank (b ∷ n) r h = byte_no_blank b (n ⊕ r) (name_char_visible b (al
 
 -- ---- characters
 
-param_chars_good : (v : Value) → is_value v ≡ true → is_permitted v ≡ true → first_bad (param_chars v) ≡ none
+param_chars_good : (v : Value) → is_value v ≡ true → is_permitted v ≡ true → first_bad (param_chars v) ≡ None
 unfolding read_or
 param_chars_good v h g = go (text_in v) refl
   where
-    go : (x : Option (List ℕ)) → text_in v ≡ x → first_bad (read_or (write_value v) x) ≡ none
-    go none e = value_good v h g
-    go (some s) e = well_formed_good s (every_both well_formed s [] (rw (text_in_lem v s e) at g)).0
+    go : (x : Option (List ℕ)) → text_in v ≡ x → first_bad (read_or (write_value v) x) ≡ None
+    go None e = value_good v h g
+    go (Some s) e = well_formed_good s (every_both well_formed s [] (rw (text_in_lem v s e) at g)).0
 
-unknown_good : (s : List ℕ) → is_permitted (unknown s) ≡ true → first_bad (param_chars (unknown s)) ≡ none
+unknown_good : (s : List ℕ) → is_permitted (unknown s) ≡ true → first_bad (param_chars (unknown s)) ≡ None
 unfolding read_or write_value
 unknown_good s g = well_formed_good s (every_both well_formed s [] g).0
 
@@ -154,7 +153,7 @@ chars_good n [] h g = refl
 chars_good n (v ∷ vs) h g =
     let a = every_both (is_parameter_value (parameter_words n) (parameter_type n)) v vs h in
     let b = every_both is_permitted v vs g in
-    and_yes _ _ (good_well_formed _ (parameter_value_valid (λ v. is_permitted v ≡ true → first_bad (param_chars v) ≡ none) unknown_good param_chars_good (parameter_words n) (parameter_type n) v a.0 b.0)) (chars_good n vs a.1 b.1)
+    and_yes _ _ (good_well_formed _ (parameter_value_valid (λ v. is_permitted v ≡ true → first_bad (param_chars v) ≡ None) unknown_good param_chars_good (parameter_words n) (parameter_type n) v a.0 b.0)) (chars_good n vs a.1 b.1)
 
 raw_good : (ed : Edition) (p : Parameter) → is_valid_parameter ed p ≡ true → is_good_raw (raw_of p) ≡ true
 raw_good ed p h =
@@ -197,10 +196,10 @@ pub comma_ascii : is_ascii 44 ≡ true
 unfolding ◌and◌ ◌or◌
 comma_ascii = refl
 
-line_good : (ed : Edition) (k : List ℕ) (p : Property) → ValidProperty ed k p → first_bad (line_of ed p) ≡ none
+line_good : (ed : Edition) (k : List ℕ) (p : Property) → ValidProperty ed k p → first_bad (line_of ed p) ≡ None
 unfolding are_values_of content_line_of write_values
 line_good ed k p s =
-    line_passes (λ s. first_bad s ≡ none) visible_good good_append is_good_chars (λ v h. well_formed_good v.chars h) (encoded_line ed (content_line_of p)) (kept_parts p.name s.kept).1
+    line_passes (λ s. first_bad s ≡ None) visible_good good_append is_good_chars (λ v h. well_formed_good v.chars h) (encoded_line ed (content_line_of p)) (kept_parts p.name s.kept).1
     (every_map is_good_raw (encoded_parameter ed) _ ∙ every_weaker is_good_raw (λ r. is_good_raw (encoded_parameter ed r)) (raw_encoded ed) _ (with_value_good p.name _ _ (raws_good ed p.parameters s.parameters)))
     (joined_good 44 (map write_value p.values) comma_ascii (values_good k p.name (type_of_all p.values) p.values (and_both _ _ (and_both _ _ s.values).1).1 s.permitted))
 
@@ -209,7 +208,7 @@ line_good ed k p s =
 unfoldable pub is_good_line : List ℕ → Bool
 is_good_line s = not (holds 13 s) and not (blank_at s) and well_formed s
 
-good_line : (s : List ℕ) → holds 13 s ≡ false → blank_at s ≡ false → first_bad s ≡ none → is_good_line s ≡ true
+good_line : (s : List ℕ) → holds 13 s ≡ false → blank_at s ≡ false → first_bad s ≡ None → is_good_line s ≡ true
 unfolding is_good_line
 good_line s a b c = and_yes _ _ (rw a) (and_yes _ _ (rw b) (good_well_formed s c))
 

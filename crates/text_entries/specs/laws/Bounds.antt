@@ -1,12 +1,10 @@
 -- Laws of what specs/Bounds.antt defines.
 --     content_aside    a line with another first byte is neither
 --     bound_kind    what was found, by its kind;   found_bound, loose_aside, whole_aside: its answers
-use Rattle.std.specs.Prelude.{◌≡◌, Bool, true, List, [], ◌∷◌, map, ℕ, zero, suc, ◌-◌, ◌<◌, eqb, length, take}
+use Rattle.std.specs.Prelude.{◌≡◌, Bool, true, List, [], ◌∷◌, map, ℕ, zero, suc, ◌-◌, ◌<◌, eqb, length, take, Option, None, Some, option_map}
 use Rattle.std.proofs.Math.Path.{refl, sym, ap}
 use Rattle.std.proofs.Common.{subst, ◌∙◌, arith, ne_eqb}
 use Rattle.std.proofs.Math.Bool.{false}
-use Rattle.std.proofs.Math.Option
-use Rattle.std.proofs.Math.Option.{Option, none, some}
 use Rattle.std.proofs.lemmas.Bool.{eqb-false}
 use Rattle.octets.specs.Ascii.{ascii}
 use Rattle.octets.specs.Pick.{pick}
@@ -25,7 +23,6 @@ use Rattle.read_text_line.specs.laws.LineEnd.{line_first}
 use Rattle.read_text_line.specs.Ready.{Ready}
 use Rattle.read_text_line.specs.laws.Ready.{line_next, line_low, line_end_inside}
 use Rattle.read_text_line.specs.declared.LineCursors.{LineCursors}
-use Rattle.read_text_line.specs.declared.Ending.TheVariants.{Loose}
 use Rattle.read_text_line.specs.ContentLine.{ContentLine, RawParameter, with_value, content_line}
 use Rattle.read_text_line.specs.Decoded.{decoded_line, read_line}
 use Rattle.text.specs.Tree.{begin, end, property, nothing, entry_by, entry_of}
@@ -69,7 +66,7 @@ name_apart [] h = (refl, refl)
 name_apart (b ∷ n) h = let p = upper_apart b h in (and_no_left _ _ p.0, and_no_left _ _ p.1)
 
 module _ (n : List ℕ) (h : (same (upper n) (ascii "BEGIN") ≡ false) × (same (upper n) (ascii "END") ≡ false)) where
-  named_aside : (l : ContentLine) → l.name ≡ n → is_aside (entry_by (some l)) ≡ true
+  named_aside : (l : ContentLine) → l.name ≡ n → is_aside (entry_by (Some l)) ≡ true
   unfolding entry_by pick
   named_aside l q = rw (q, h.0, h.1)
 
@@ -77,12 +74,12 @@ module _ (n : List ℕ) (h : (same (upper n) (ascii "BEGIN") ≡ false) × (same
   unfolding entry_by with_value
   valued_aside (no r) = refl
   valued_aside (ok ps r) =
-      byte_case (λ (o : Option ContentLine). is_aside (entry_by o) ≡ true) 58 r _ none
-      (λ v e. pick_either (λ (o : Option ContentLine). is_aside (entry_by o) ≡ true) _ _ none (named_aside _ refl) refl) refl
+      byte_case (λ (o : Option ContentLine). is_aside (entry_by o) ≡ true) 58 r _ None
+      (λ v e. pick_either (λ (o : Option ContentLine). is_aside (entry_by o) ≡ true) _ _ None (named_aside _ refl) refl) refl
 
 content_aside : (l : List ℕ) → opens l ≡ false → is_aside (entry_by (content_line l)) ≡ true
 unfolding content_line entry_by run_of
-content_aside l h = pick_either (λ (o : Option ContentLine). is_aside (entry_by o) ≡ true) _ none _ refl (valued_aside (run_of is_name_char l) (name_apart _ (opens-take (span_len is_name_char l) l h)) _)
+content_aside l h = pick_either (λ (o : Option ContentLine). is_aside (entry_by o) ≡ true) _ None _ refl (valued_aside (run_of is_name_char l) (name_apart _ (opens-take (span_len is_name_char l) l h)) _)
 
 -- ---- for code
 
@@ -96,10 +93,10 @@ opens_not {mode} {s} {at} {n} p q h = rw p.is (go (eqb n.u 256))
     go false = unfold pick in sym q ∙ h
 
 -- decoding leaves the name as it is
-decoded_aside : (ed : Edition) (o : Option ContentLine) → is_aside (entry_by (Option.map (decoded_line ed) o)) ≡ is_aside (entry_by o)
+decoded_aside : (ed : Edition) (o : Option ContentLine) → is_aside (entry_by (option_map (decoded_line ed) o)) ≡ is_aside (entry_by o)
 unfolding entry_by pick
-decoded_aside ed none = refl
-decoded_aside ed (some l) = go (same (upper l.name) (ascii "BEGIN")) (same (upper l.name) (ascii "END"))
+decoded_aside ed None = refl
+decoded_aside ed (Some l) = go (same (upper l.name) (ascii "BEGIN")) (same (upper l.name) (ascii "END"))
   where
     go : (a b : Bool) → is_aside (pick a (begin (upper l.value)) (pick b end (property (decoded_line ed l)))) ≡ is_aside (pick a (begin (upper l.value)) (pick b end (property l)))
     go true b = refl
@@ -122,7 +119,7 @@ pub found_bound : {ed : Edition} {mode : ℕ} {s : List ℕ} {at : ℕ} {r : Fou
 found_bound {ed} {mode} {s} {at} {r} f = record { onward = f.onward; ready = f.ready; ends = f.ends; found = found_by r.kind ed mode s at r.line r.end r.next f.found }
 
 module _ {ed : Edition} {mode : ℕ} {s : List ℕ} {at : ℕ} (r : Ready mode s at) where
-  pub loose_aside : at < length s → EndsLine mode s at Loose → BoundAt ed mode s at (record { kind = Nothing; line = record { name = at; parameters = at; value = at }; end = at; next = length s })
+  pub loose_aside : at < length s → EndsLine mode s at None → BoundAt ed mode s at (record { kind = Nothing; line = record { name = at; parameters = at; value = at }; end = at; next = length s })
   loose_aside h f = found_bound (found_loose ed r _ h f)
 
   pub whole_aside : {e next : ℕ} → LineEnds mode s at e next → opens (rest mode s at) ≡ false → BoundAt ed mode s at (record { kind = Nothing; line = record { name = at; parameters = e; value = e }; end = e; next = next })

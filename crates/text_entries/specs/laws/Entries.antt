@@ -1,13 +1,11 @@
 -- Laws of what specs/Entries.antt defines.
 --     by_kind    what was found, by its kind;   found_loose, found_bad, found_named: its answers
 --     name_inside, property_inside   where a property's name ends
-use Rattle.std.specs.Prelude.{◌≡◌, Bool, ℕ, ◌≤◌, ◌<◌, length, take}
+use Rattle.std.specs.Prelude.{◌≡◌, Bool, ℕ, ◌≤◌, ◌<◌, length, take, Option, None, Some, option_map}
 use Rattle.std.proofs.Math.Path.{refl, ap, subst}
 use Rattle.std.proofs.Common.{sym, ◌∙◌, arith, take-take, length-take-le}
 use Rattle.std.proofs.Math.Bool.{true, false}
 use mathlib.Core.List.{List, [], ◌∷◌, map}
-use Rattle.std.proofs.Math.Option
-use Rattle.std.proofs.Math.Option.{Option, none, some}
 use Rattle.std.proofs.Math.Decide.{dec_le}
 use Rattle.octets.specs.Ascii.{ascii}
 use Rattle.octets.specs.Pick.{pick}
@@ -27,10 +25,7 @@ use Rattle.read_text_line.specs.LineEnd.{LineEnds, EndsLine}
 use Rattle.read_text_line.specs.laws.LineEnd.{line_first, line_none}
 use Rattle.read_text_line.specs.Ready.{Ready}
 use Rattle.read_text_line.specs.laws.Ready.{ready_end, line_count, line_next, line_low, line_end_inside, lines_start, lines_past}
-use Rattle.read_text_line.specs.declared.Ending.TheVariants.{Loose}
 use Rattle.read_text_line.specs.declared.LineCursors.{LineCursors}
-use Rattle.read_text_line.specs.declared.LineRead.{LineRead}
-use Rattle.read_text_line.specs.declared.LineRead.TheVariants.{Line as LineThere, Bad}
 use Rattle.calendar.specs.Levels.{levels, shallow}
 use Rattle.text.specs.Tree.{Entry, nothing, entry_by, entry_of, inner_of, calendar_of}
 use Rattle.edition.specs.declared.Edition.{Edition}
@@ -41,11 +36,11 @@ use Rattle.text_entries.specs.declared.entry.Kind.TheVariants.{Begin, End, Prope
 
 -- ---- where the name of a line ends
 
-no_line : content_line [] ≡ none
+no_line : content_line [] ≡ None
 unfolding content_line run_of span_len pick
 no_line = refl
 
-module _ {m : ℕ} {s : List ℕ} {c : ℕ} {l : LineCursors} (y : cuts m ≡ true) (a : LineAt m s c (LineThere l)) where
+module _ {m : ℕ} {s : List ℕ} {c : ℕ} {l : LineCursors} (y : cuts m ≡ true) (a : LineAt m s c (Some l)) where
   pub name_inside : l.parameters ≤ length s
   name_inside = go (dec_le c (length s))
     where
@@ -69,8 +64,8 @@ module _ {ed : Edition} {mode : ℕ} {s : List ℕ} {at : ℕ} {r : Found} (f : 
 
 -- ---- the name of a line
 
-module _ {mode : ℕ} {s : List ℕ} {at : ℕ} (r : Ready mode s at) {e next : ℕ} (f : LineEnds mode s at e next) {y : LineRead} (a : LineAt mode (take e s) at y) {l : LineCursors} (z : y ≡ LineThere l) where
-  there : LineAt mode (take e s) at (LineThere l)
+module _ {mode : ℕ} {s : List ℕ} {at : ℕ} (r : Ready mode s at) {e next : ℕ} (f : LineEnds mode s at e next) {y : Option LineCursors} (a : LineAt mode (take e s) at y) {l : LineCursors} (z : y ≡ Some l) where
+  there : LineAt mode (take e s) at (Some l)
   there = subst (LineAt mode (take e s) at) z a
 
   name_within : l.parameters ≤ e
@@ -93,7 +88,7 @@ module _ (ed : Edition) where
   -- ---- what is found
 
   module _ {mode : ℕ} {s : List ℕ} {at : ℕ} (r : Ready mode s at) where
-    pub found_loose : (l : LineCursors) → at < length s → EndsLine mode s at Loose → FoundAt ed mode s at (record { kind = Nothing; line = l; end = at; next = length s })
+    pub found_loose : (l : LineCursors) → at < length s → EndsLine mode s at None → FoundAt ed mode s at (record { kind = Nothing; line = l; end = at; next = length s })
     unfolding entries_at entry_of
     found_loose l h f = record {
       onward = h;
@@ -113,22 +108,22 @@ module _ (ed : Edition) where
       found_whole k l h = record { onward = line_low r f; ready = line_next r f; ends = line_end_inside r f; found = h }
 
       -- what is found by the two tests of the name
-      by_name : (w : List ℕ) (l : LineCursors) (x : ContentLine) → w ≡ upper x.name → x.value ≡ rest mode (take e s) l.value → read_line ed (rest mode (take e s) at) ≡ some x →
-          LineAt mode (take e s) at (LineThere l) → FoundBy ed (kind_named w) mode s at l e next
+      by_name : (w : List ℕ) (l : LineCursors) (x : ContentLine) → w ≡ upper x.name → x.value ≡ rest mode (take e s) l.value → read_line ed (rest mode (take e s) at) ≡ Some x →
+          LineAt mode (take e s) at (Some l) → FoundBy ed (kind_named w) mode s at l e next
       unfolding entry_by pick
       by_name w l x q z k g = go (same w (ascii "BEGIN")) refl (same w (ascii "END")) refl
         where
           go : (t : Bool) → same w (ascii "BEGIN") ≡ t → (u : Bool) → same w (ascii "END") ≡ u → FoundBy ed (pick t Begin (pick u End Property)) mode s at l e next
-          go true b u y = subst (λ m. First ed mode s at m next) (rw (← q, b, z)) (whole_line (some x) k)
-          go false b true y = subst (λ m. First ed mode s at m next) (rw (← q, b, y)) (whole_line (some x) k)
-          go false b false y = record { line = x; is = k; parts = g; first = subst (λ m. First ed mode s at m next) (rw (← q, b, y)) (whole_line (some x) k) }
+          go true b u y = subst (λ m. First ed mode s at m next) (rw (← q, b, z)) (whole_line (Some x) k)
+          go false b true y = subst (λ m. First ed mode s at m next) (rw (← q, b, y)) (whole_line (Some x) k)
+          go false b false y = record { line = x; is = k; parts = g; first = subst (λ m. First ed mode s at m next) (rw (← q, b, y)) (whole_line (Some x) k) }
 
-      module _ {y : LineRead} (a : LineAt mode (take e s) at y) where
-        pub found_bad : (l : LineCursors) → y ≡ Bad → FoundAt ed mode s at (record { kind = Nothing; line = l; end = e; next = next })
+      module _ {y : Option LineCursors} (a : LineAt mode (take e s) at y) where
+        pub found_bad : (l : LineCursors) → y ≡ None → FoundAt ed mode s at (record { kind = Nothing; line = l; end = e; next = next })
         unfolding entry_by
-        found_bad l z = found_whole Nothing l (whole_line none (ap (Option.map (decoded_line ed)) (subst (LineAt mode (take e s) at) z a).is))
+        found_bad l z = found_whole Nothing l (whole_line None (ap (option_map (decoded_line ed)) (subst (LineAt mode (take e s) at) z a).is))
 
-        pub found_named : {l : LineCursors} → y ≡ LineThere l → {k : Kind} → k ≡ kind_named (upper (rest mode (take l.parameters s) l.name)) → FoundAt ed mode s at (record { kind = k; line = l; end = e; next = next })
+        pub found_named : {l : LineCursors} → y ≡ Some l → {k : Kind} → k ≡ kind_named (upper (rest mode (take l.parameters s) l.name)) → FoundAt ed mode s at (record { kind = k; line = l; end = e; next = next })
         found_named {l} z {k} h =
             found_whole k l (rw h (by_name _ l (decoded_line ed (named mode (take e s) l))
-            (ap upper (ap (λ (x : List ℕ). rest mode x l.name) (sym (take-take l.parameters e s (name_within r f a z))) ∙ name_chars r.cut (there r f a z).parts.1.name)) refl (ap (Option.map (decoded_line ed)) (there r f a z).is) (there r f a z)))
+            (ap upper (ap (λ (x : List ℕ). rest mode x l.name) (sym (take-take l.parameters e s (name_within r f a z))) ∙ name_chars r.cut (there r f a z).parts.1.name)) refl (ap (option_map (decoded_line ed)) (there r f a z).is) (there r f a z)))

@@ -1,15 +1,10 @@
 -- `text_from_jcal::in_edition` meets its contract.
+use mathlib.Core.Path.{sym, ◌∙◌}
 use Rattle.text_from_jcal.specs.laws.Steps.{bad_character, good_characters}
-use Rattle.utf8.specs.Automaton.{found_of}
-use mathlib.Core.Path.{sym, ap, ◌∙◌}
-use borrow.Author.Rules.{rules}
 use Rattle.text_from_jcal.proofs.in_edition.Goals as goal
 
-pub formed-requires : goal.formed-requires
-formed-requires c = c.requires
+pub returns-in-Some : goal.returns-in-Some
+returns-in-Some c = bad_character c.args.edition c.args.s.now c.args.out.now (sym c.first_bad.ensures ∙ c.in-Some.is)
 
-pub returns-in-At : goal.returns-in-At
-returns-in-At c = bad_character c.args.edition c.args.s.now c.args.out.now (sym c.first_bad.ensures ∙ ap found_of c.in-At.is)
-
-pub returns-in-Nothing : goal.returns-in-Nothing
-returns-in-Nothing c = good_characters c.args.edition c.args.s.now c.args.out.now (sym c.first_bad.ensures ∙ ap found_of c.in-Nothing.is) c.formed.ensures
+pub returns-in-None : goal.returns-in-None
+returns-in-None c = good_characters c.args.edition c.args.s.now c.args.out.now (sym c.first_bad.ensures ∙ c.in-None.is) c.formed.ensures

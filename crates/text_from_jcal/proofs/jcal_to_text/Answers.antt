@@ -1,19 +1,17 @@
 -- `text_from_jcal::jcal_to_text` meets its contract.
-use Rattle.text_from_jcal.specs.laws.Steps.{too_long, no_edition, in_edition}
-use Rattle.edition.specs.Edition.{known}
+use mathlib.Core.Path.{sym, ◌∙◌}
 use native.Mathlib.Omega.{arith}
-use mathlib.Core.Path.{sym, ap, ◌∙◌}
-use borrow.Author.Rules.{rules}
+use Rattle.text_from_jcal.specs.laws.Steps.{too_long, no_edition, in_edition}
 use Rattle.text_from_jcal.proofs.jcal_to_text.Goals as goal
 
+pub returns-then-input-gt65535 : goal.returns-then-input-gt65535
+returns-then-input-gt65535 c = too_long c.args.input.now c.args.out.now c.args.edition (omega arith)
+
 pub in_edition-requires : goal.in_edition-requires
-in_edition-requires c = omega (arith, c.if-input-le65535.true)
+in_edition-requires c = omega arith
 
-pub returns-in-Known : goal.returns-in-Known
-returns-in-Known c = in_edition c.args.input.now c.args.out.now c.args.edition (omega (arith, c.if-input-le65535.true)) (sym (ap known c.in-Known.is) ∙ c.edition_of.ensures) c.in_edition.ensures
+pub returns-in-Some : goal.returns-in-Some
+returns-in-Some c = in_edition c.args.input.now c.args.out.now c.args.edition (omega arith) (sym c.in-Some.is ∙ c.edition_of.ensures) c.in_edition.ensures
 
-pub returns-in-Unknown : goal.returns-in-Unknown
-returns-in-Unknown c = no_edition c.args.input.now c.args.out.now c.args.edition (omega (arith, c.if-input-le65535.true)) (sym (ap known c.in-Unknown.is) ∙ c.edition_of.ensures)
-
-pub returns : goal.returns
-returns c = too_long c.args.input.now c.args.out.now c.args.edition (omega (arith, c.if-input-le65535.false))
+pub returns-in-None : goal.returns-in-None
+returns-in-None c = no_edition c.args.input.now c.args.out.now c.args.edition (omega arith) (sym c.in-None.is ∙ c.edition_of.ensures)

@@ -9,8 +9,8 @@ use Prim.Native.Nat.{◌^◌, ◌≤◌, ◌<◌}
 use borrow.Author.Rules.{rules}
 use Rattle.text_from_jcal.proofs.written_at_once.Goals as goal
 
-pub put_calendars-n-requires : goal.put_calendars-n-requires
-put_calendars-n-requires c = (c.requires.0, c.requires.1)
+pub put_calendars-requires : goal.put_calendars-requires
+put_calendars-requires c = (c.requires.0, c.requires.1)
 
 pub returns : goal.returns
-returns c = let k : length (write_calendar c.args.edition (read_calendars (calendars_in (value_of c.args.s.now)))) < 2 ^ 63 = omega (arith, c.requires.0, c.requires.2) in let f : length (write_calendar c.args.edition (read_calendars (calendars_in (value_of c.args.s.now)))) ≤ length c.args.out.now = omega (arith, c.requires.2, c.requires.3) in done_at_once k f c.put_calendars-n.ensures.put
+returns c = let k : length (write_calendar c.args.edition (read_calendars (calendars_in (value_of c.args.s.now)))) < 2 ^ 63 = omega (arith, c.requires.0, c.requires.2) in let f : length (write_calendar c.args.edition (read_calendars (calendars_in (value_of c.args.s.now)))) ≤ length c.args.out.now = omega (arith, c.requires.2, c.requires.3) in done_at_once k f c.put_calendars.ensures.put

@@ -1,9 +1,8 @@
 -- Laws of what specs/Steps.antt defines.
-use Rattle.std.specs.Prelude.{◌≡◌, refl, List, ℕ, ◌*◌, ◌≤◌, ◌<◌, length}
+use Rattle.std.specs.Prelude.{◌≡◌, refl, List, ℕ, ◌*◌, ◌≤◌, ◌<◌, length, ⊤, Option, None, Some, Result, Ok, Err}
 use Rattle.std.proofs.Math.Path.{sym}
 use Rattle.std.proofs.Common.{ap, subst, ◌∙◌}
 use Rattle.std.proofs.Math.Bool.{true, false}
-use Rattle.std.proofs.Math.Option.{Option, none, some}
 use Rattle.std.proofs.Math.Dec.{leb}
 use borrow.Author.Tests.{le-leb, lt-leb}
 use Rattle.octets.specs.Pick.{pick}
@@ -16,18 +15,15 @@ use Rattle.text.specs.WriteText.{write_calendar}
 use Rattle.json_text.specs.Bytes.{most_open}
 use Rattle.json_text.specs.Check.{verdict}
 use Rattle.json_text.specs.Tree.{value_of}
-use Rattle.json_text.specs.declared.Checked.{Checked}
-use Rattle.json_text.specs.declared.Checked.TheVariants.{Fine, At}
 use Rattle.jcal.specs.Components.{components_verdict, read_calendars, calendars_in}
 use Rattle.jcal.specs.ReadJcal.{json, jcal_verdict, read_jcal}
-use Rattle.read_jcal.specs.Judging.{judged_as}
-use Rattle.read_jcal.specs.declared.Judged.{Judged}
-use Rattle.read_jcal.specs.declared.Judged.TheVariants as judged
+use Rattle.refusals.specs.Fault.{judged_as}
+use Rattle.refusals.specs.declared.Fault.{Fault}
 use Rattle.refusals.specs.declared.Refusal.TheVariants.{Length, Character, Json}
 use Rattle.refusals.specs.declared.Refusal.TheVariants.{Edition as EditionRefused}
 use Rattle.calls.specs.Conversion.{converted, outcome, contents}
-use Rattle.calls.specs.Answered.{outcome_of, answer_at, Done}
-use Rattle.calls.specs.laws.Answered.{answer_refusal, done_fault}
+use Rattle.calls.specs.Answered.{outcome_of, answer_of, Done}
+use Rattle.calls.specs.laws.Answered.{done_fault}
 use Rattle.calls.specs.declared.Answer.{Answer}
 use Rattle.calls.specs.declared.Answer.TheVariants.{Refused}
 use Rattle.calls_jcal.specs.JcalToText.{jcal_to_text, jcal_to_text_outcome, jcal_to_text_output}
@@ -52,14 +48,14 @@ module _ (s d : List ℕ) (edition : ℕ) where
   too_long h = go (edition_of edition)
     where
       go : (o : Option Edition) → (outcome_of (Refused Length 0) ≡ outcome (jcal_to_text o s) (length d)) × (d ≡ contents (jcal_to_text o s) d)
-      go (some ed) = let e : leb (length s) 65535 ≡ false = lt-leb (length s) 65535 h in (rw e, rw e)
-      go none = let e : leb (length s) 65535 ≡ false = lt-leb (length s) 65535 h in (rw e, rw e)
+      go (Some ed) = let e : leb (length s) 65535 ≡ false = lt-leb (length s) 65535 h in (rw e, rw e)
+      go None = let e : leb (length s) 65535 ≡ false = lt-leb (length s) 65535 h in (rw e, rw e)
 
-  pub no_edition : length s ≤ 65535 → none ≡ edition_of edition → Converts s d d edition (Refused EditionRefused 0)
+  pub no_edition : length s ≤ 65535 → None ≡ edition_of edition → Converts s d d edition (Refused EditionRefused 0)
   unfolding jcal_to_text outcome contents pick
   no_edition h k = let e : leb (length s) 65535 ≡ true = le-leb (length s) 65535 h in (rw (← k, e), rw (← k, e))
 
-  pub in_edition : {ed : Edition} {e : List ℕ} {r : Answer} → length s ≤ 65535 → some ed ≡ edition_of edition →
+  pub in_edition : {ed : Edition} {e : List ℕ} {r : Answer} → length s ≤ 65535 → Some ed ≡ edition_of edition →
       Done (jcal_gives ed s (characters (first_bad s) otherwise json (verdict most_open s) otherwise judged_in ed s)) d e r → Converts s d e edition r
   unfolding jcal_to_text read_jcal jcal_verdict pick
   in_edition h k g = let e : leb (length s) 65535 ≡ true = le-leb (length s) 65535 h in (g.answer ∙ rw (← k, e), g.left ∙ rw (← k, e))
@@ -71,35 +67,35 @@ fits_again ed c m n e h = subst (λ (k : ℕ). fits ed k c ≡ true) (sym e) h
 module _ (ed : Edition) where
   module _ (s d : List ℕ) where
     -- the characters
-    pub bad_character : {p : ℕ} → first_bad s ≡ some p → Done (jcal_gives ed s (characters (first_bad s) otherwise json (verdict most_open s) otherwise judged_in ed s)) d d (Refused Character p)
+    pub bad_character : {p : ℕ} → first_bad s ≡ Some p → Done (jcal_gives ed s (characters (first_bad s) otherwise json (verdict most_open s) otherwise judged_in ed s)) d d (Refused Character p)
     unfolding ◌otherwise◌
     bad_character k = rw k (done_fault d refl)
 
-    pub good_characters : {e : List ℕ} {r : Answer} → first_bad s ≡ none → Done (jcal_gives ed s (json (verdict most_open s) otherwise judged_in ed s)) d e r →
+    pub good_characters : {e : List ℕ} {r : Answer} → first_bad s ≡ None → Done (jcal_gives ed s (json (verdict most_open s) otherwise judged_in ed s)) d e r →
         Done (jcal_gives ed s (characters (first_bad s) otherwise json (verdict most_open s) otherwise judged_in ed s)) d e r
     unfolding ◌otherwise◌
     good_characters k g = rw k g
 
     -- JSON
-    pub json_refused : {c : Checked} {p : ℕ} → c ≡ verdict most_open s → c ≡ At p → Done (jcal_gives ed s (json (verdict most_open s) otherwise judged_in ed s)) d d (Refused Json p)
+    pub json_refused : {c : Option ℕ} {p : ℕ} → c ≡ verdict most_open s → c ≡ Some p → Done (jcal_gives ed s (json (verdict most_open s) otherwise judged_in ed s)) d d (Refused Json p)
     unfolding ◌otherwise◌
-    json_refused e h = let z : verdict most_open s ≡ At _ = sym e ∙ h in rw z (done_fault d refl)
+    json_refused e h = let z : verdict most_open s ≡ Some _ = sym e ∙ h in rw z (done_fault d refl)
 
-    pub json_fine : {c : Checked} {e : List ℕ} {r : Answer} → c ≡ verdict most_open s → c ≡ Fine → Done (jcal_gives ed s (judged_in ed s)) d e r →
+    pub json_fine : {c : Option ℕ} {e : List ℕ} {r : Answer} → c ≡ verdict most_open s → c ≡ None → Done (jcal_gives ed s (judged_in ed s)) d e r →
         Done (jcal_gives ed s (json (verdict most_open s) otherwise judged_in ed s)) d e r
     unfolding ◌otherwise◌
-    json_fine q h g = let z : verdict most_open s ≡ Fine = sym q ∙ h in rw z g
+    json_fine q h g = let z : verdict most_open s ≡ None = sym q ∙ h in rw z g
 
     -- the calendars of a text that is JSON
-    module _ {j : Judged} (v : judged_in ed s ≡ judged_as j) where
-      pub calendars_refused : (n : ℕ) {p : ℕ} {r : Answer} → j ≡ judged.Refused n p → r ≡ answer_at n p → Done (jcal_gives ed s (judged_in ed s)) d d r
-      calendars_refused n {p} e g = rw (v, e) (done_fault d (ap outcome_of g ∙ answer_refusal n p))
+    module _ {j : Result ⊤ Fault} (v : judged_in ed s ≡ judged_as j) where
+      pub calendars_refused : (f : Fault) {r : Answer} → j ≡ Err f → r ≡ answer_of f → Done (jcal_gives ed s (judged_in ed s)) d d r
+      calendars_refused q e g = rw (v, e, g) (done_fault d refl)
 
-      pub calendars_fine : {e : List ℕ} {r : Answer} → j ≡ judged.Fine → Done (converted (write_calendar ed) (answer fine (read_calendars (calendars_in (value_of s))))) d e r → Done (jcal_gives ed s (judged_in ed s)) d e r
+      pub calendars_fine : {e : List ℕ} {r : Answer} → j ≡ Ok tt → Done (converted (write_calendar ed) (answer fine (read_calendars (calendars_in (value_of s))))) d e r → Done (jcal_gives ed s (judged_in ed s)) d e r
       calendars_fine e g = rw (v, e) g
 
-  pub calendars_bound : (s : List ℕ) → verdict most_open s ≡ Fine → {j : Judged} → judged_in ed s ≡ judged_as j → j ≡ judged.Fine → length (write_calendar ed (read_calendars (calendars_in (value_of s)))) ≤ 6 * length s
+  pub calendars_bound : (s : List ℕ) → verdict most_open s ≡ None → {j : Result ⊤ Fault} → judged_in ed s ≡ judged_as j → j ≡ Ok tt → length (write_calendar ed (read_calendars (calendars_in (value_of s)))) ≤ 6 * length s
   calendars_bound s h v e = text_bound ed s h (v ∙ ap judged_as e)
 
-  pub calendars_fit : (s : List ℕ) → length s ≤ 65535 → verdict most_open s ≡ Fine → fits ed 262144 (read_calendars (calendars_in (value_of s))) ≡ true
+  pub calendars_fit : (s : List ℕ) → length s ≤ 65535 → verdict most_open s ≡ None → fits ed 262144 (read_calendars (calendars_in (value_of s))) ≡ true
   calendars_fit s l h = lines_fit ed s h l

@@ -7,16 +7,16 @@ use Rattle.text_to_jcal.specs.laws.Steps.{whole_refused, whole_kept}
 use Rattle.text_to_jcal.proofs.to_jcal.Goals as goal
 
 pub slice_bounds-written-end : goal.slice_bounds-written-end
-slice_bounds-written-end c = (subst (Reads _ _ _ _) c.in-Kept.is c.read_whole.ensures.0).inside
+slice_bounds-written-end c = (subst (Reads _ _ _ _) c.in-Ok.is c.read_whole.ensures.0).inside
 
-pub slice_bounds-written-end-in-Kept : goal.slice_bounds-written-end-in-Kept
-slice_bounds-written-end-in-Kept c = sym (length-take-le _ _ (subst (Reads _ _ _ _) c.in-Kept.is c.read_whole.ensures.0).inside)
+pub slice_bounds-written-end-in-Ok : goal.slice_bounds-written-end-in-Ok
+slice_bounds-written-end-in-Ok c = sym (length-take-le _ _ (subst (Reads _ _ _ _) c.in-Ok.is c.read_whole.ensures.0).inside)
 
 pub written-requires : goal.written-requires
-written-requires c = (subst (Reads _ _ _ _) c.in-Kept.is c.read_whole.ensures.0).short
+written-requires c = (subst (Reads _ _ _ _) c.in-Ok.is c.read_whole.ensures.0).short
 
-pub returns-in-Kept : goal.returns-in-Kept
-returns-in-Kept c = whole_kept c.args.input.now c.args.work.now c.args.out.now c.args.edition (subst (Reads _ _ _ _) c.in-Kept.is c.read_whole.ensures.0) c.read_whole.ensures.1 c.written.ensures
+pub returns-in-Ok : goal.returns-in-Ok
+returns-in-Ok c = whole_kept c.args.input.now c.args.work.now c.args.out.now c.args.edition c.in-Ok.kept (subst (Reads _ _ _ _) c.in-Ok.is c.read_whole.ensures.0) c.read_whole.ensures.1 c.written.ensures
 
-pub returns-in-Refused : goal.returns-in-Refused
-returns-in-Refused c = whole_refused c.args.input.now c.args.work.now c.args.out.now c.args.edition (subst (Reads _ _ _ _) c.in-Refused.is c.read_whole.ensures.0) c.read_whole.ensures.1
+pub returns-in-Err : goal.returns-in-Err
+returns-in-Err c = whole_refused c.args.input.now c.args.work.now c.args.out.now c.args.edition c.in-Err.fault (subst (Reads _ _ _ _) c.in-Err.is c.read_whole.ensures.0) c.from.ensures c.read_whole.ensures.1

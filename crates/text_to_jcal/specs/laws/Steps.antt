@@ -1,7 +1,6 @@
 -- Laws of the steps of `to_jcal`.
-use Rattle.std.specs.Prelude.{◌≡◌, refl, List, ℕ, ◌^◌, ◌≤◌, ◌<◌, length, take}
+use Rattle.std.specs.Prelude.{◌≡◌, refl, List, ℕ, ◌^◌, ◌≤◌, ◌<◌, length, take, Option, None, Some, Ok, Err}
 use Rattle.std.proofs.Common.{ap, ◌∙◌, arith}
-use Rattle.std.proofs.Math.Option.{Option, none, some}
 use Rattle.calendar.specs.Refusal.{fine, answer}
 use Rattle.sink.specs.Sink.{Put}
 use Rattle.source.specs.Source.{rest}
@@ -13,12 +12,13 @@ use Rattle.text.specs.Tree.{calendar_of}
 use Rattle.jcal.specs.WriteJcal.{write_jcal}
 use Rattle.lengths_jcal.specs.laws.Streams.{jcal_short}
 use Rattle.calls.specs.Conversion.{Converted, converted, outcome, contents}
-use Rattle.calls.specs.Answered.{outcome_of, Done}
+use Rattle.calls.specs.Answered.{outcome_of, answer_of, Done}
 use Rattle.calls.specs.declared.Answer.{Answer}
 use Rattle.calls_jcal.specs.ToJcal.{to_jcal, to_jcal_outcome, to_jcal_output, to_jcal_work}
 use Rattle.read_text_whole.specs.Whole.{Reads}
 use Rattle.read_text_whole.specs.laws.Given.{given, refused_done, kept_done}
-use Rattle.read_text_whole.specs.declared.Whole.TheVariants.{Kept, Refused}
+use Rattle.read_text_whole.specs.declared.Kept.{Kept}
+use Rattle.refusals.specs.declared.Fault.{Fault}
 
 -- the contract of the call: all that it answers, and leaves in the output and in the work room
 abbrev pub Converts : List ℕ → List ℕ → List ℕ → List ℕ → List ℕ → ℕ → Answer → Type 0
@@ -36,8 +36,8 @@ jcal_counted ed u h = omega (arith, jcal_short ed u h)
 
 as_given : (o : Option Edition) (s : List ℕ) (room : ℕ) → given write_jcal o s room ≡ to_jcal o s room
 unfolding to_jcal
-as_given (some ed) s room = refl
-as_given none s room = refl
+as_given (Some ed) s room = refl
+as_given None s room = refl
 
 module _ (s w d : List ℕ) (edition : ℕ) {w' : List ℕ} where
   done : {e : List ℕ} {a : Answer} → Done (given write_jcal (edition_of edition) s (length w)) d e a → w' ≡ to_jcal_work s w edition → Converts s w w' d e edition a
@@ -45,9 +45,9 @@ module _ (s w d : List ℕ) (edition : ℕ) {w' : List ℕ} where
       let same = as_given (edition_of edition) s (length w) in
       (g.answer ∙ ap (λ (c : Converted). outcome c (length d)) same, g.left ∙ ap (λ (c : Converted). contents c d) same, k)
 
-  pub whole_refused : {a : Answer} → Reads s w w' edition (Refused a) → w' ≡ to_jcal_work s w edition → Converts s w w' d d edition a
-  whole_refused h k = done (refused_done write_jcal s w d (edition_of edition) h) k
+  pub whole_refused : (f : Fault) {a : Answer} → Reads s w w' edition (Err f) → a ≡ answer_of f → w' ≡ to_jcal_work s w edition → Converts s w w' d d edition a
+  whole_refused f h e k = done (rw e (refused_done write_jcal s w d (edition_of edition) f h)) k
 
-  pub whole_kept : {ed : Edition} {n : ℕ} {e : List ℕ} {a : Answer} → Reads s w w' edition (Kept ed n) → w' ≡ to_jcal_work s w edition →
-      Done (converted write_jcal (answer fine (calendar_of ed (lines (take n w'))))) d e a → Converts s w w' d e edition a
-  whole_kept h k g = done (kept_done write_jcal s w d h g) k
+  pub whole_kept : (k : Kept) {e : List ℕ} {a : Answer} → Reads s w w' edition (Ok k) → w' ≡ to_jcal_work s w edition →
+      Done (converted write_jcal (answer fine (calendar_of k.edition (lines (take k.size w'))))) d e a → Converts s w w' d e edition a
+  whole_kept k h q g = done (kept_done write_jcal s w d h g) q

@@ -1,8 +1,7 @@
 -- Laws of the steps of `to_xml` and `to_xml_folded`.
-use Rattle.std.specs.Prelude.{◌≡◌, refl, true, List, ℕ, zero, suc, ◌+◌, ◌*◌, ◌^◌, ◌≤◌, ◌<◌, length, take}
+use Rattle.std.specs.Prelude.{◌≡◌, refl, true, List, ℕ, zero, suc, ◌+◌, ◌*◌, ◌^◌, ◌≤◌, ◌<◌, length, take, Option, None, Some, Ok, Err}
 use Rattle.std.proofs.Common.{ap, ◌∙◌, arith}
 use Rattle.std.proofs.lemmas.Bool.{false≢true}
-use Rattle.std.proofs.Math.Option.{Option, none, some}
 use Rattle.octets.specs.Pick.{pick}
 use Rattle.calendar.specs.Refusal.{fine, answer}
 use Rattle.source.specs.Source.{rest, cuts}
@@ -17,11 +16,12 @@ use Rattle.lengths_xml.specs.laws.Documents.{xml_short, xml_fits}
 use Rattle.calls.specs.Conversion.{Converted, converted, outcome, contents}
 use Rattle.calls.specs.ToXml.{to_xml, to_xml_outcome, to_xml_output, to_xml_work}
 use Rattle.calls.specs.ToXmlFolded.{to_xml_folded_outcome, to_xml_folded_output}
-use Rattle.calls.specs.Answered.{outcome_of, Done}
+use Rattle.calls.specs.Answered.{outcome_of, answer_of, Done}
 use Rattle.calls.specs.declared.Answer.{Answer}
 use Rattle.read_text_whole.specs.Whole.{Reads, KeepsFolded, ReadsFolded}
 use Rattle.read_text_whole.specs.laws.Given.{given, refused_done, kept_done, folded_done}
-use Rattle.read_text_whole.specs.declared.Whole.TheVariants.{Kept, Refused}
+use Rattle.read_text_whole.specs.declared.Kept.{Kept}
+use Rattle.refusals.specs.declared.Fault.{Fault}
 
 -- the contracts of the calls: all that each answers, and leaves in the output and in the work room
 abbrev pub Converts : List ℕ → List ℕ → List ℕ → List ℕ → List ℕ → ℕ → Answer → Type 0
@@ -50,8 +50,8 @@ module _ (ed : Edition) (m : ℕ) (s : List ℕ) (y : cuts m ≡ true) where
 
 as_given : (o : Option Edition) (s : List ℕ) (room : ℕ) → given write_document o s room ≡ to_xml o s room
 unfolding to_xml
-as_given (some ed) s room = refl
-as_given none s room = refl
+as_given (Some ed) s room = refl
+as_given None s room = refl
 
 module _ (s w d : List ℕ) (edition : ℕ) {w' : List ℕ} where
   done : {e : List ℕ} {a : Answer} → Done (given write_document (edition_of edition) s (length w)) d e a → w' ≡ to_xml_work s w edition → Converts s w w' d e edition a
@@ -59,12 +59,12 @@ module _ (s w d : List ℕ) (edition : ℕ) {w' : List ℕ} where
       let same = as_given (edition_of edition) s (length w) in
       (g.answer ∙ ap (λ (c : Converted). outcome c (length d)) same, g.left ∙ ap (λ (c : Converted). contents c d) same, k)
 
-  pub whole_refused : {a : Answer} → Reads s w w' edition (Refused a) → w' ≡ to_xml_work s w edition → Converts s w w' d d edition a
-  whole_refused h k = done (refused_done write_document s w d (edition_of edition) h) k
+  pub whole_refused : (f : Fault) {a : Answer} → Reads s w w' edition (Err f) → a ≡ answer_of f → w' ≡ to_xml_work s w edition → Converts s w w' d d edition a
+  whole_refused f h e k = done (rw e (refused_done write_document s w d (edition_of edition) f h)) k
 
-  pub whole_kept : {ed : Edition} {n : ℕ} {e : List ℕ} {a : Answer} → Reads s w w' edition (Kept ed n) → w' ≡ to_xml_work s w edition →
-      Done (converted write_document (answer fine (calendar_of ed (lines (rest 0 (take n w') 0))))) d e a → Converts s w w' d e edition a
-  whole_kept {n = n} h k g = done (kept_done write_document s w d h (rw (rest_plain (take n w')) at g)) k
+  pub whole_kept : (k : Kept) {e : List ℕ} {a : Answer} → Reads s w w' edition (Ok k) → w' ≡ to_xml_work s w edition →
+      Done (converted write_document (answer fine (calendar_of k.edition (lines (rest 0 (take k.size w') 0))))) d e a → Converts s w w' d e edition a
+  whole_kept k h q g = done (kept_done write_document s w d h (rw (rest_plain (take k.size w')) at g)) q
 
 -- ---- the call that reads the folds in place
 
@@ -74,8 +74,8 @@ module _ (s d : List ℕ) (edition : ℕ) where
       let same = as_given (edition_of edition) s (length s) in
       (g.answer ∙ ap (λ (c : Converted). outcome c (length d)) same, g.left ∙ ap (λ (c : Converted). contents c d) same)
 
-  pub folded_refused : {a : Answer} → ReadsFolded s edition (Refused a) → ConvertsFolded s d d edition a
-  folded_refused h = done_folded (refused_done write_document s s d (edition_of edition) h)
+  pub folded_refused : (f : Fault) {a : Answer} → ReadsFolded s edition (Err f) → a ≡ answer_of f → ConvertsFolded s d d edition a
+  folded_refused f h e = done_folded (rw e (refused_done write_document s s d (edition_of edition) f h))
 
   pub folded_kept : {ed : Edition} {e : List ℕ} {a : Answer} → KeepsFolded s edition ed →
       Done (converted write_document (answer fine (calendar_of ed (lines (rest 2 s 0))))) d e a → ConvertsFolded s d e edition a

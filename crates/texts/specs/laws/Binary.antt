@@ -1,8 +1,7 @@
 -- Laws of what specs/Binary.antt defines.
 --     binary_read_back, binary_kept, binary_accepted, binary_visible
-use Rattle.std.specs.Prelude.{◌≡◌, refl, Bool, true, false, List, [], ◌∷◌, ℕ, eqb, ltb}
+use Rattle.std.specs.Prelude.{◌≡◌, refl, Bool, true, false, List, [], ◌∷◌, ℕ, eqb, ltb, None, Some}
 use Rattle.std.proofs.Common.{◌∙◌, arith}
-use Rattle.std.proofs.Math.Option.{none, some}
 use Rattle.octets.specs.Pick.{pick, ◌and◌}
 use Rattle.octets.specs.laws.Pick.{pick_yes, and_both, or_cases, within_wider, eqb_passes}
 use Rattle.octets.specs.Scan.{all_of}
@@ -49,11 +48,11 @@ chars_stay : (f : Format) (v : List ℕ) → is_binary v ≡ true → binary_cha
 chars_stay ical v h = refl
 chars_stay xcal v h = visible_stays v (binary_visible v h)
 
-pub binary_read_back : (f : Format) (v : List ℕ) → is_binary v ≡ true → read_binary f v ≡ some v
-binary_read_back f v h = rw (chars_stay f v h) (pick_yes (is_binary v) (some v) none h)
+pub binary_read_back : (f : Format) (v : List ℕ) → is_binary v ≡ true → read_binary f v ≡ Some v
+binary_read_back f v h = rw (chars_stay f v h) (pick_yes (is_binary v) (Some v) None h)
 
-pub binary_kept : (f : Format) (s v : List ℕ) → read_binary f s ≡ some v → binary_chars f s ≡ v
+pub binary_kept : (f : Format) (s v : List ℕ) → read_binary f s ≡ Some v → binary_chars f s ≡ v
 binary_kept f s v h = (provided-some (is_binary (binary_chars f s)) (binary_chars f s) v h).1
 
-pub binary_accepted : (f : Format) (s v : List ℕ) → read_binary f s ≡ some v → is_binary v ≡ true
+pub binary_accepted : (f : Format) (s v : List ℕ) → read_binary f s ≡ Some v → is_binary v ≡ true
 binary_accepted f s v h = rw (← (binary_kept f s v h)) (provided-some (is_binary (binary_chars f s)) (binary_chars f s) v h).0

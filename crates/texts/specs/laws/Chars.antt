@@ -28,22 +28,22 @@ put_as_is {l = l} p = rw (each_as_is l) at p
 
 -- ---- what was read, written
 
-module _ {d : List ℕ} {at : ℕ} {t a : Bool} (b : Bool) (l : List ℕ) (q : t ≡ a) (h : a ≡ b) where
+module _ {d : List ℕ} {at : ℕ} {t : Bool} (b : Bool) (l : List ℕ) (h : t ≡ b) where
   pub put_kept : {e : List ℕ} {r : ℕ} → t ≡ true → Put d e at r l → Put d e at r (or_nothing as_is (provided b l))
   unfolding pick
-  put_kept k p = rw (sym h ∙ sym q ∙ k) p
+  put_kept k p = rw (sym h ∙ k) p
 
   pub put_kept_xml : {e : List ℕ} {r : ℕ} → t ≡ true → Put d e at r (escaped l) → Put d e at r (or_nothing escaped (provided b l))
   unfolding pick
-  put_kept_xml k p = rw (sym h ∙ sym q ∙ k) p
+  put_kept_xml k p = rw (sym h ∙ k) p
 
   pub put_unkept : t ≡ false → length d * 1 < 2 ^ 63 → Put d d at at (or_nothing as_is (provided b l))
   unfolding pick
-  put_unkept k z = rw (sym h ∙ sym q ∙ k) (put_none d at z)
+  put_unkept k z = rw (sym h ∙ k) (put_none d at z)
 
   pub put_unkept_xml : t ≡ false → length d * 1 < 2 ^ 63 → Put d d at at (or_nothing escaped (provided b l))
   unfolding pick
-  put_unkept_xml k z = rw (sym h ∙ sym q ∙ k) (put_none d at z)
+  put_unkept_xml k z = rw (sym h ∙ k) (put_none d at z)
 
 pub ruleset writing_kept = (put_kept, put_kept_xml, put_unkept, put_unkept_xml, writing)
 

@@ -1,12 +1,11 @@
 -- Laws of what specs/Elements.antt defines.
 --     put_part     a slice cut at its length where the cut is to be past it
 --     Listing      the invariant of the loop that writes them;   `search listing`
-use Rattle.std.specs.Prelude.{◌≡◌, Bool, true, List, [], ℕ, ◌*◌, ◌^◌, min, ◌<◌, length, take}
+use Rattle.std.specs.Prelude.{◌≡◌, Bool, true, List, [], ℕ, ◌*◌, ◌^◌, min, ◌<◌, length, take, Option, None, Some}
 use Rattle.std.proofs.Math.Path.{refl}
 use Rattle.std.proofs.Common.{sym, ap, ◌∙◌}
 use Rattle.std.proofs.Math.Bool.{false}
 use Rattle.std.proofs.lemmas.Bool.{false≢true}
-use Rattle.std.proofs.Math.Option.{Option, none, some}
 use Rattle.octets.specs.Ascii.{ascii}
 use Rattle.octets.specs.Append.{◌⊕◌}
 use Rattle.octets.specs.Reading.{and_then, is_read, cons_read, or_nothing}
@@ -33,9 +32,9 @@ put_part m s e c h p = rw (← (take_least s e), ← h) p
 first_of : (o : Option (List ℕ)) (q : Option (List (List ℕ))) → is_read (and_then o (λ p. cons_read p q)) ≡ true →
     (or_nothing texts_xml (and_then o (λ p. cons_read p q)) ≡ element_of (ascii "text") (or_nothing escaped o) ⊕ or_nothing texts_xml q) × (is_read q ≡ true)
 unfolding and_then cons_read is_read texts_xml
-first_of none q h = absurd (false≢true h)
-first_of (some p) none h = absurd (false≢true h)
-first_of (some p) (some l) h = (refl, refl)
+first_of None q h = absurd (false≢true h)
+first_of (Some p) None h = absurd (false≢true h)
+first_of (Some p) (Some l) h = (refl, refl)
 
 pub record Listing (d₀ : List ℕ) (at₀ m : ℕ) (s : List ℕ) (c₀ : ℕ) (d : List ℕ) (at c : ℕ) : Type 0 where
   pub cut : cuts m ≡ true
@@ -63,21 +62,21 @@ module _ {d₀ : List ℕ} {at₀ m : ℕ} {s : List ℕ} {c₀ : ℕ} {d : List
   unfolding ◌⊕◌ texts_xml cons_read
   listing_end h =
       let k = item_last t.cut i p h in
-      let f = first_of (read_text (rest m (take e s) c)) (some []) (rw k at t.read) in
+      let f = first_of (read_text (rest m (take e s) c)) (Some []) (rw k at t.read) in
       todo_done (todo_step t.todo w (ap (or_nothing texts_xml) k ∙ f.0)) refl
 
 pub ruleset listing = (listing_start, listing_more, listing_end, writing)
 
 -- ---- what was read, written
 
-module _ {t a : Bool} (l : List ℕ) (q : t ≡ a) (h : a ≡ is_read (read_texts l)) where
+module _ {t : Bool} (l : List ℕ) (h : t ≡ is_read (read_texts l)) where
   pub texts_read : t ≡ true → is_read (read_texts l) ≡ true
-  texts_read k = sym h ∙ sym q ∙ k
+  texts_read k = sym h ∙ k
 
   pub put_no_texts : {d : List ℕ} {at : ℕ} → t ≡ false → length d * 1 < 2 ^ 63 → Put d d at at (or_nothing texts_xml (read_texts l))
   unfolding is_read
-  put_no_texts {d} {at} k z = go (read_texts l) (sym k ∙ q ∙ h)
+  put_no_texts {d} {at} k z = go (read_texts l) (sym k ∙ h)
     where
       go : (o : Option (List (List ℕ))) → false ≡ is_read o → Put d d at at (or_nothing texts_xml o)
-      go none x = put_none d at z
-      go (some v) x = absurd (false≢true x)
+      go None x = put_none d at z
+      go (Some v) x = absurd (false≢true x)

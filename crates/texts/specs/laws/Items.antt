@@ -1,11 +1,10 @@
 -- Laws of what specs/Items.antt defines.
 --     split_item               a list is its first item, read alone, in front of what is read behind the separator
 --     item_cut, item_first, item_last, item_more   the item cut out of the slice, the last one and one before others
-use Rattle.std.specs.Prelude.{◌≡◌, refl, Bool, true, false, List, [], ◌∷◌, ℕ, ◌*◌, max, ◌≤◌, ◌<◌, eqb, length, take}
+use Rattle.std.specs.Prelude.{◌≡◌, refl, Bool, true, false, List, [], ◌∷◌, ℕ, ◌*◌, max, ◌≤◌, ◌<◌, eqb, length, take, Option, None, Some}
 use Rattle.std.proofs.Math.Path.{sym}
 use Rattle.std.proofs.Common.{ap, ◌∙◌, arith, rules, eqb-true}
 use Rattle.std.proofs.lemmas.Bool.{false≢true}
-use Rattle.std.proofs.Math.Option.{Option, none, some}
 use Rattle.octets.specs.Pick.{pick, ◌and◌, ◌or◌}
 use Rattle.octets.specs.laws.Pick.{and_both}
 use Rattle.octets.specs.Append.{◌⊕◌}
@@ -60,9 +59,9 @@ between_sign c b ps h = let q = and_both (eqb b c) (is_break b) h in go (eqb b 4
 with_first : (g : Sign) (o : Option (List ℕ)) (q : Option (List (List ℕ))) → is_separator g ≡ false →
     with_sign g (and_then o (λ p. cons_read p q)) ≡ and_then (text_sign g o) (λ p. cons_read p q)
 unfolding and_then cons_read onto_read onto
-with_first (char x) none q h = refl
-with_first (char x) (some p) none h = refl
-with_first (char x) (some p) (some l) h = refl
+with_first (char x) None q h = refl
+with_first (char x) (Some p) None h = refl
+with_first (char x) (Some p) (Some l) h = refl
 with_first opening o q h = refl
 with_first separator o q h = absurd (false≢true (sym h))
 with_first fault o q h = refl
@@ -101,7 +100,7 @@ pub item_first : (sep m : ℕ) (s : List ℕ) (c r : ℕ) → cuts m ≡ true �
 item_first sep m s c r y p = rw (item_cut sep m s c r y p, p.left) (split_item (rest m s c) false sep)
 
 module _ {sep m : ℕ} {s : List ℕ} {c r : ℕ} {n : Step} (y : cuts m ≡ true) (p : ItemEnds sep m s c r) (q : Reads m s r n) where
-  pub item_last : n.u ≡ 256 → split_text sep (rest m s c) ≡ and_then (read_text (rest m (take r s) c)) (λ p. some (p ∷ []))
+  pub item_last : n.u ≡ 256 → split_text sep (rest m s c) ≡ and_then (read_text (rest m (take r s) c)) (λ p. Some (p ∷ []))
   unfolding cons_read
   item_last h = item_first sep m s c r y p ∙ rw (rest_end q h)
 

@@ -1,7 +1,7 @@
--- Laws of what specs/Kept.antt defines.
+-- Values that are kept by their characters, read: laws of the loops that test them from a cursor on.
 --     unknown_.., uri_.., binary_..   the ways that each loop goes on and ends
 --     passed, kept, none_left         BINARY a byte at a time: white space of XML is passed over
-use Rattle.std.specs.Prelude.{◌≡◌, Bool, List, [], ◌∷◌, ℕ, ◌+◌, ◌%◌, ◌≤◌, ◌<◌, ltb}
+use Rattle.std.specs.Prelude.{◌≡◌, Bool, List, [], ◌∷◌, ℕ, ◌+◌, ◌≤◌, ◌<◌, ltb}
 use Rattle.std.proofs.Math.Path.{refl, sym}
 use Rattle.std.proofs.Common.{ap, ◌∙◌, arith, rules}
 use Rattle.std.proofs.Math.Bool.{true, false}
@@ -9,7 +9,7 @@ use Rattle.std.proofs.lemmas.Bool.{false≢true}
 use Rattle.std.proofs.Math.Dec.{eqb}
 use borrow.Author.Tests.{ne_eqb, ltb-true, eqb-true, eqb-false}
 use Rattle.octets.specs.Pick.{pick, ◌and◌, ◌or◌}
-use Rattle.octets.specs.laws.Pick.{and_both, or-false}
+use Rattle.octets.specs.laws.Pick.{and_both}
 use Rattle.octets.specs.Class.{is_alpha, is_space}
 use Rattle.octets.specs.Words.{holds}
 use Rattle.calendar.specs.Calendar.{format_of}
@@ -18,7 +18,7 @@ use Rattle.source.specs.laws.Facts.{rest_byte, rest_end}
 use Rattle.source.specs.declared.Step.{Step}
 use Rattle.texts.specs.Unknown.{is_unknown}
 use Rattle.texts.specs.Uri.{in_uri, uri_from, is_uri}
-use Rattle.texts.specs.Binary.{is_base64_char, base64_value, pad_fits, in_group, next_place, binary_from, without_space, binary_chars}
+use Rattle.texts.specs.Binary.{is_base64_char, pad_fits, in_group, next_place, binary_from, without_space, binary_chars}
 
 -- a value that a reader's loop has yet to test: v is what it is to answer
 module _ {v : Bool} {m : ℕ} {s : List ℕ} {c : ℕ} {r : Step} (p : Reads m s c r) where
@@ -104,16 +104,6 @@ module _ {v : Bool} {m : ℕ} {s : List ℕ} {c : ℕ} {r : Step} (p : Reads m s
   pub binary_end : {a : Bool} → v ≡ binary_from n last (binary_chars (format_of x) (rest m s c)) → r.u ≡ 256 → a ≡ (eqb n 0 or eqb n 5) → a ≡ v
   unfolding binary_from
   binary_end e h k = k ∙ sym (e ∙ rw (rest_end p h) (ap (binary_from n last) (none_left x)))
-
--- `=` at each place, where w is what the character before it is worth
-module _ (n last w : ℕ) (q : w ≡ base64_value last) where
-  pub pad_two : n ≡ 2 → eqb (w % 16) 0 ≡ pad_fits n last
-  unfolding ◌or◌ ◌and◌
-  pad_two e = rw (e, q) (sym (or-false (eqb (base64_value last % 16) 0)))
-
-  pub pad_three : n ≡ 3 → eqb (w % 4) 0 ≡ pad_fits n last
-  unfolding ◌or◌ ◌and◌
-  pad_three e = rw (e, q)
 
 -- a place stays a place
 pub place_small : {g : Bool} {n' : ℕ} (n last u : ℕ) → g ≡ in_group n last u → g ≡ true → n' ≡ next_place n u → n' ≤ 5

@@ -1,7 +1,6 @@
 -- Laws of what specs/RequestStatus.antt defines.
 --     request_status_read_back, request_status_accepted, request_status_one_line, request_status_no_return
-use Rattle.std.specs.Prelude.{◌≡◌, refl, true, false, List, [], ◌∷◌, map, ℕ}
-use Rattle.std.proofs.Math.Option.{Option, none, some}
+use Rattle.std.specs.Prelude.{◌≡◌, refl, true, false, List, [], ◌∷◌, map, ℕ, Option, None, Some}
 use Rattle.octets.specs.Pick.{◌or◌}
 use Rattle.octets.specs.Words.{holds, none_holds}
 use Rattle.octets.specs.laws.Words.{joined_without}
@@ -14,10 +13,10 @@ use Rattle.texts.specs.laws.Escaped.{each_one_line, each_no_return}
 use Rattle.texts.specs.RequestStatus.{status_of, read_request_status, status_parts, write_request_status}
 
 pub request_status_read_back : (code description : List ℕ) (x : Option (List ℕ)) →
-    read_request_status (write_request_status code description x) ≡ some (request_status code description x)
+    read_request_status (write_request_status code description x) ≡ Some (request_status code description x)
 unfolding and_then ◌or◌
-request_status_read_back code description none = rw (split_read_back 59 refl code (description ∷ []))
-request_status_read_back code description (some x) = rw (split_read_back 59 refl code (description ∷ x ∷ []))
+request_status_read_back code description None = rw (split_read_back 59 refl code (description ∷ []))
+request_status_read_back code description (Some x) = rw (split_read_back 59 refl code (description ∷ x ∷ []))
 
 -- what is read is a REQUEST-STATUS
 pub record IsStatus (v : Value) : Type 0 where
@@ -26,14 +25,14 @@ pub record IsStatus (v : Value) : Type 0 where
   pub extra : Option (List ℕ)
   pub is : v ≡ request_status code description extra
 
-status_of_lem : (ps : List (List ℕ)) (v : Value) → status_of ps ≡ some v → IsStatus v
+status_of_lem : (ps : List (List ℕ)) (v : Value) → status_of ps ≡ Some v → IsStatus v
 status_of_lem [] v h = none-some h
 status_of_lem (c ∷ []) v h = none-some h
-status_of_lem (c ∷ d ∷ []) v h = record { code = c; description = d; extra = none; is = cc }
-status_of_lem (c ∷ d ∷ x ∷ []) v h = record { code = c; description = d; extra = some x; is = cc }
+status_of_lem (c ∷ d ∷ []) v h = record { code = c; description = d; extra = None; is = cc }
+status_of_lem (c ∷ d ∷ x ∷ []) v h = record { code = c; description = d; extra = Some x; is = cc }
 status_of_lem (c ∷ d ∷ x ∷ p ∷ ps) v h = none-some h
 
-pub request_status_accepted : (s : List ℕ) (v : Value) → read_request_status s ≡ some v → IsStatus v
+pub request_status_accepted : (s : List ℕ) (v : Value) → read_request_status s ≡ Some v → IsStatus v
 request_status_accepted s v h = let q = and_then-some (split_text 59 s) status_of v h in status_of_lem q.0 v q.2
 
 -- no LF, and a CR only where a part has one

@@ -3,10 +3,9 @@
 --     split_read_back  texts written and joined by a separator are split again;   text_read_back, for one
 --     split_some       what is split has at least one piece
 --     text_end, text_step  read_text a byte at a time
-use Rattle.std.specs.Prelude.{◌≡◌, refl, Bool, true, false, not, List, [], ◌∷◌, map, ℕ, eqb}
+use Rattle.std.specs.Prelude.{◌≡◌, refl, Bool, true, false, not, List, [], ◌∷◌, map, ℕ, eqb, Option, None, Some}
 use Rattle.std.proofs.Common.{sym, ap, ◌∙◌, eqb-true}
 use Rattle.std.proofs.lemmas.Bool.{false≢true, not-true}
-use Rattle.std.proofs.Math.Option.{Option, none, some}
 use Rattle.octets.specs.Pick.{pick, ◌or◌}
 use Rattle.octets.specs.Append.{◌⊕◌}
 use Rattle.octets.specs.laws.Append.{append_empty, append_none, append_regroup}
@@ -16,7 +15,7 @@ use Rattle.texts.specs.Text.{Sign, char, opening, separator, fault, is_break, si
 
 -- ---- what is written is read back
 
-pub front_one : (p : List ℕ) (ps : List (List ℕ)) → front_read p (some ([] ∷ ps)) ≡ some (p ∷ ps)
+pub front_one : (p : List ℕ) (ps : List (List ℕ)) → front_read p (Some ([] ∷ ps)) ≡ Some (p ∷ ps)
 unfolding front_read onto_read onto
 front_one [] ps = refl
 front_one (b ∷ p) ps = rw (front_one p ps)
@@ -47,7 +46,7 @@ unfolding write_text front_read
 split_front c [] r = rw append_empty
 split_front c (b ∷ p) r = rw append_regroup (escape_read c b (write_text p ⊕ r) ∙ ap (onto_read b) (split_front c p r))
 
-pub split_one : (c : ℕ) (p : List ℕ) → split_text c (write_text p) ≡ some (p ∷ [])
+pub split_one : (c : ℕ) (p : List ℕ) → split_text c (write_text p) ≡ Some (p ∷ [])
 unfolding split_from pick
 split_one c p = ap (split_text c) (sym (append_none (write_text p))) ∙ split_front c p [] ∙ front_one p []
 
@@ -61,23 +60,23 @@ separator_read c h r = go (eqb c 44) refl (eqb c 59) refl h
     go false e false k h = absurd (false≢true h)
 
 -- texts written and joined by a separator are split where they were joined
-pub split_read_back : (c : ℕ) → is_break c ≡ true → (p : List ℕ) (ps : List (List ℕ)) → split_text c (joined_by c (map write_text (p ∷ ps))) ≡ some (p ∷ ps)
+pub split_read_back : (c : ℕ) → is_break c ≡ true → (p : List ℕ) (ps : List (List ℕ)) → split_text c (joined_by c (map write_text (p ∷ ps))) ≡ Some (p ∷ ps)
 unfolding joined_by each_after cons_read
 split_read_back c h p [] = rw append_none (split_one c p)
 split_read_back c h p (q ∷ ps) = go (split_read_back c h q ps)
   where
-    go : split_text c (joined_by c (map write_text (q ∷ ps))) ≡ some (q ∷ ps) → split_text c (write_text p ⊕ (c ∷ joined_by c (map write_text (q ∷ ps)))) ≡ some (p ∷ q ∷ ps)
+    go : split_text c (joined_by c (map write_text (q ∷ ps))) ≡ Some (q ∷ ps) → split_text c (write_text p ⊕ (c ∷ joined_by c (map write_text (q ∷ ps)))) ≡ Some (p ∷ q ∷ ps)
     go ih = split_front c p (c ∷ joined_by c (map write_text (q ∷ ps))) ∙ ap (front_read p) (separator_read c h _ ∙ ap (cons_read []) ih) ∙ front_one p (q ∷ ps)
 
-pub text_read_back : (s : List ℕ) → read_text (write_text s) ≡ some s
+pub text_read_back : (s : List ℕ) → read_text (write_text s) ≡ Some s
 unfolding and_then
 text_read_back s = rw (split_one 0 s)
 
 -- ---- what is read has at least one piece
 
 abbrev pub filled : Option (List (List ℕ)) → Bool
-filled none = true
-filled (some ps) = not (is_empty ps)
+filled None = true
+filled (Some ps) = not (is_empty ps)
 
 pub split_filled : (s : List ℕ) (after : Bool) (c : ℕ) → filled (split_from after c s) ≡ true
 unfolding split_from pick onto_read onto cons_read
@@ -86,15 +85,15 @@ split_filled [] false c = refl
 split_filled (b ∷ s) after c = go (sign_of after c b) (split_from (opens after b) c s) (split_filled s (opens after b) c)
   where
     go : (g : Sign) (o : Option (List (List ℕ))) → filled o ≡ true → filled (with_sign g o) ≡ true
-    go (char x) none h = refl
-    go (char x) (some []) h = refl
-    go (char x) (some (p ∷ ps)) h = refl
+    go (char x) None h = refl
+    go (char x) (Some []) h = refl
+    go (char x) (Some (p ∷ ps)) h = refl
     go opening o h = h
-    go separator none h = refl
-    go separator (some ps) h = refl
+    go separator None h = refl
+    go separator (Some ps) h = refl
     go fault o h = refl
 
-pub split_some : (c : ℕ) (s : List ℕ) (ps : List (List ℕ)) → split_text c s ≡ some ps → is_empty ps ≡ false
+pub split_some : (c : ℕ) (s : List ℕ) (ps : List (List ℕ)) → split_text c s ≡ Some ps → is_empty ps ≡ false
 split_some c s ps h = not-true (is_empty ps) (rw h at (split_filled s false c))
 
 -- ---- a single TEXT a byte at a time
@@ -103,13 +102,13 @@ split_some c s ps h = not-true (is_empty ps) (rw h at (split_filled s false c))
 abbrev pub text_sign : Sign → Option (List ℕ) → Option (List ℕ)
 text_sign (char b) t = cons_read b t
 text_sign opening t = t
-text_sign separator t = none
-text_sign fault t = none
+text_sign separator t = None
+text_sign fault t = None
 
 abbrev pub text_from : Bool → List ℕ → Option (List ℕ)
 text_from after s = and_then (split_from after 0 s) alone
 
-pub text_end : (after : Bool) → text_from after [] ≡ pick after none (some [])
+pub text_end : (after : Bool) → text_from after [] ≡ pick after None (Some [])
 unfolding split_from and_then pick
 text_end true = refl
 text_end false = refl
@@ -119,12 +118,12 @@ unfolding split_from and_then onto_read onto cons_read
 text_step after b s = go (sign_of after 0 b) (split_from (opens after b) 0 s) (split_filled s (opens after b) 0)
   where
     go : (g : Sign) (o : Option (List (List ℕ))) → filled o ≡ true → and_then (with_sign g o) alone ≡ text_sign g (and_then o alone)
-    go (char x) none h = refl
-    go (char x) (some []) h = absurd (false≢true h)
-    go (char x) (some (p ∷ [])) h = refl
-    go (char x) (some (p ∷ q ∷ ps)) h = refl
+    go (char x) None h = refl
+    go (char x) (Some []) h = absurd (false≢true h)
+    go (char x) (Some (p ∷ [])) h = refl
+    go (char x) (Some (p ∷ q ∷ ps)) h = refl
     go opening o h = refl
-    go separator none h = refl
-    go separator (some []) h = absurd (false≢true h)
-    go separator (some (p ∷ ps)) h = refl
+    go separator None h = refl
+    go separator (Some []) h = absurd (false≢true h)
+    go separator (Some (p ∷ ps)) h = refl
     go fault o h = refl

@@ -1,13 +1,12 @@
 -- Laws of what specs/TextGrammar.antt defines.
 --     text_grammar     a text is read exactly where it is one of the grammar, as what it means there
 --     texts_grammar    and so are texts between bare separators
-use Rattle.std.specs.Prelude.{◌≡◌, ◌↔◌, Bool, ℕ}
+use Rattle.std.specs.Prelude.{◌≡◌, ◌↔◌, Bool, ℕ, Option, None, Some}
 use Rattle.std.proofs.Math.Path.{refl, ap}
 use Rattle.std.proofs.Common.{sym, ◌∙◌, eqb-true}
 use Rattle.std.proofs.Math.Bool.{true, false}
 use Rattle.std.proofs.lemmas.Bool.{false≢true}
 use mathlib.Core.List.{List, [], ◌∷◌, map}
-use Rattle.std.proofs.Math.Option.{Option, none, some}
 use Rattle.std.proofs.Math.Dec.{eqb}
 use Rattle.octets.specs.Pick.{pick, ◌and◌, ◌or◌}
 use Rattle.octets.specs.laws.Pick.{and_yes, or_neither, pick_second}
@@ -80,12 +79,12 @@ text_front c (u ∷ us) r h =
     let q = every_both is_text_char u us h in
     rw append_regroup (char_read c u (spelling us ⊕ r) q.0 ∙ ap (onto_read (stands_for u)) (text_front c us r q.1))
 
-text_spelled : (c : ℕ) (us : List TextChar) → is_text us ≡ true → split_text c (spelling us) ≡ some (meaning us ∷ [])
+text_spelled : (c : ℕ) (us : List TextChar) → is_text us ≡ true → split_text c (spelling us) ≡ Some (meaning us ∷ [])
 unfolding split_from pick
 text_spelled c us h = ap (split_text c) (sym (append_none (spelling us))) ∙ text_front c us [] h ∙ front_one (meaning us) []
 
 texts_made : (c : ℕ) → is_break c ≡ true → (us : List TextChar) (uss : List (List TextChar)) → every is_text (us ∷ uss) ≡ true →
-    split_text c (joined_by c (map spelling (us ∷ uss))) ≡ some (map meaning (us ∷ uss))
+    split_text c (joined_by c (map spelling (us ∷ uss))) ≡ Some (map meaning (us ∷ uss))
 unfolding joined_by each_after cons_read
 texts_made c h us [] k = rw append_none (text_spelled c us (every_both is_text us [] k).0)
 texts_made c h us (vs ∷ uss) k =
@@ -125,31 +124,31 @@ module _ {c : ℕ} {s : List ℕ} {ps : List (List ℕ)} (t : TextsOf c s ps) wh
     means = ap (λ (l : List (List ℕ)). [] ∷ l) t.means;
   }
 
-onto-some : (b : ℕ) (o : Option (List (List ℕ))) (ps : List (List ℕ)) → onto_read b o ≡ some ps → (qs : List (List ℕ)) × (o ≡ some qs) × (onto b qs ≡ ps)
+onto-some : (b : ℕ) (o : Option (List (List ℕ))) (ps : List (List ℕ)) → onto_read b o ≡ Some ps → (qs : List (List ℕ)) × (o ≡ Some qs) × (onto b qs ≡ ps)
 unfolding onto_read
-onto-some b none ps h = none-some h
-onto-some b (some qs) ps h = (qs, refl, cc)
+onto-some b None ps h = none-some h
+onto-some b (Some qs) ps h = (qs, refl, cc)
 
-module _ (c b : ℕ) (s : List ℕ) (ps : List (List ℕ)) (ih : (qs : List (List ℕ)) → split_text c s ≡ some qs → TextsOf c s qs) where
-  one_found : (u : TextChar) → is_text_char u ≡ true → onto_read (stands_for u) (split_text c s) ≡ some ps → TextsOf c (spelled u ⊕ s) ps
+module _ (c b : ℕ) (s : List ℕ) (ps : List (List ℕ)) (ih : (qs : List (List ℕ)) → split_text c s ≡ Some qs → TextsOf c s qs) where
+  one_found : (u : TextChar) → is_text_char u ≡ true → onto_read (stands_for u) (split_text c s) ≡ Some ps → TextsOf c (spelled u ⊕ s) ps
   one_found u g k = let q = onto-some (stands_for u) (split_text c s) ps k in rw (← q.2) (one_more (ih q.0 q.1) u g)
 
   -- a byte after a backslash
-  escape_found : with_sign (escaped_sign b) (split_text c s) ≡ some ps → TextsOf c (92 ∷ b ∷ s) ps
+  escape_found : with_sign (escaped_sign b) (split_text c s) ≡ Some ps → TextsOf c (92 ∷ b ∷ s) ps
   unfolding pick ◌⊕◌
   escape_found h = go (is_text_char (escape b)) refl (rw (escaped_sign_lem b) at h)
     where
-      go : (t : Bool) → is_text_char (escape b) ≡ t → with_sign (pick t (char (stands_for (escape b))) fault) (split_text c s) ≡ some ps → TextsOf c (92 ∷ b ∷ s) ps
+      go : (t : Bool) → is_text_char (escape b) ≡ t → with_sign (pick t (char (stands_for (escape b))) fault) (split_text c s) ≡ Some ps → TextsOf c (92 ∷ b ∷ s) ps
       go true e k = one_found (escape b) e k
       go false e k = none-some k
 
   -- a byte with no backslash before it
-  bare_found : (split_from true c s ≡ some ps → TextsOf c (92 ∷ s) ps) → with_sign (bare_sign c b) (split_from (eqb b 92) c s) ≡ some ps → TextsOf c (b ∷ s) ps
+  bare_found : (split_from true c s ≡ Some ps → TextsOf c (92 ∷ s) ps) → with_sign (bare_sign c b) (split_from (eqb b 92) c s) ≡ Some ps → TextsOf c (b ∷ s) ps
   unfolding pick ◌⊕◌
   bare_found after h = go (is_text_char (safe b)) refl (eqb b 92) refl (eqb b c) refl (rw (bare_sign_lem c b) at h)
     where
       go : (t : Bool) → is_text_char (safe b) ≡ t → (u : Bool) → eqb b 92 ≡ u → (v : Bool) → eqb b c ≡ v →
-          with_sign (pick t (char b) (pick u opening (pick v separator fault))) (split_from u c s) ≡ some ps → TextsOf c (b ∷ s) ps
+          with_sign (pick t (char b) (pick u opening (pick v separator fault))) (split_from u c s) ≡ Some ps → TextsOf c (b ∷ s) ps
       go true e true f v g k = absurd (false≢true (sym (safe_inside b e) ∙ f))
       go true e false f v g k = one_found (safe b) e k
       go false e true f v g k = rw (eqb-true b 92 f) (after k)
@@ -158,24 +157,24 @@ module _ (c b : ℕ) (s : List ℕ) (ps : List (List ℕ)) (ih : (qs : List (Lis
           rw (eqb-true b c g, ← q.2) (one_begun (ih q.0 q.1))
       go false e false f false g k = none-some k
 
-nothing_found : (c : ℕ) (ps : List (List ℕ)) → some ([] ∷ []) ≡ some ps → TextsOf c [] ps
+nothing_found : (c : ℕ) (ps : List (List ℕ)) → Some ([] ∷ []) ≡ Some ps → TextsOf c [] ps
 unfolding spelling joined_by each_after every ◌and◌ ◌⊕◌
 nothing_found c ps h = record { first = []; others = []; good = refl; is = refl; means = cc }
 
-texts_found : (s : List ℕ) (after : Bool) (c : ℕ) (ps : List (List ℕ)) → split_from after c s ≡ some ps → TextsOf c (pick after (92 ∷ s) s) ps
+texts_found : (s : List ℕ) (after : Bool) (c : ℕ) (ps : List (List ℕ)) → split_from after c s ≡ Some ps → TextsOf c (pick after (92 ∷ s) s) ps
 unfolding split_from pick
 texts_found [] true c ps h = none-some h
 texts_found [] false c ps h = nothing_found c ps h
 texts_found (b ∷ s) true c ps h = escape_found c b s ps (λ qs. texts_found s false c qs) h
 texts_found (b ∷ s) false c ps h = bare_found c b s ps (λ qs. texts_found s false c qs) (texts_found s true c ps) h
 
-pub texts_grammar : (c : ℕ) → is_break c ≡ true → (s : List ℕ) (ps : List (List ℕ)) → (split_text c s ≡ some ps) ↔ TextsOf c s ps
+pub texts_grammar : (c : ℕ) → is_break c ≡ true → (s : List ℕ) (ps : List (List ℕ)) → (split_text c s ≡ Some ps) ↔ TextsOf c s ps
 unfolding pick
 texts_grammar c h s ps = (texts_found s false c ps, λ t. rw (t.is, t.means) (texts_made c h t.first t.others t.good))
 
 -- ---- one text alone
 
-only_one : (ps : List (List ℕ)) (p : List ℕ) → alone ps ≡ some p → ps ≡ p ∷ []
+only_one : (ps : List (List ℕ)) (p : List ℕ) → alone ps ≡ Some p → ps ≡ p ∷ []
 only_one [] p h = none-some h
 only_one (q ∷ []) p h = cc
 only_one (q ∷ r ∷ ps) p h = none-some h
@@ -192,11 +191,11 @@ text_only s p t = go t.others t.is t.means
     go [] e m = record { chars = t.first; good = (every_both is_text t.first t.others t.good).0; is = e ∙ append_none (spelling t.first); means = cc }
     go (u ∷ o) e m = absurd (false≢true (ap is_one (sym m)))
 
-pub text_grammar : (s p : List ℕ) → (read_text s ≡ some p) ↔ TextOf s p
+pub text_grammar : (s p : List ℕ) → (read_text s ≡ Some p) ↔ TextOf s p
 unfolding and_then pick
 text_grammar s p = (found, λ t. rw (t.is, t.means, text_spelled 0 t.chars t.good))
   where
-    found : read_text s ≡ some p → TextOf s p
+    found : read_text s ≡ Some p → TextOf s p
     found h =
         let q = and_then-some (split_text 0 s) alone p h in
-        text_only s p (texts_found s false 0 (p ∷ []) (q.1 ∙ ap some (only_one q.0 p q.2)))
+        text_only s p (texts_found s false 0 (p ∷ []) (q.1 ∙ ap Some (only_one q.0 p q.2)))

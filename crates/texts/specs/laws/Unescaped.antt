@@ -3,11 +3,10 @@
 --     text_value    it is what is read
 --     separator_none      a single TEXT has no separator
 --     text_..             the ways that a reader's loop goes on and ends;   `search reading_text`
-use Rattle.std.specs.Prelude.{◌≡◌, refl, Bool, true, false, List, [], ◌∷◌, ℕ, eqb}
+use Rattle.std.specs.Prelude.{◌≡◌, refl, Bool, true, false, List, [], ◌∷◌, ℕ, eqb, Option, None, Some}
 use Rattle.std.proofs.Math.Path.{sym}
-use Rattle.std.proofs.Common.{ap, ◌∙◌, rules, eqb-true}
+use Rattle.std.proofs.Common.{not, ap, ◌∙◌, rules, eqb-true}
 use Rattle.std.proofs.lemmas.Bool.{false≢true}
-use Rattle.std.proofs.Math.Option.{Option, none, some}
 use Rattle.octets.specs.Pick.{pick, ◌and◌, ◌or◌}
 use Rattle.octets.specs.laws.Pick.{and_both}
 use Rattle.octets.specs.Reading.{is_read, cons_read}
@@ -45,11 +44,11 @@ split_is [] false c = refl
 split_is (b ∷ s) after c = go (sign_of after c b) (split_from (opens after b) c s) ∙ rw (sign_good after c b, split_is s (opens after b) c)
   where
     go : (g : Sign) (o : Option (List (List ℕ))) → is_read (with_sign g o) ≡ (is_good g and is_read o)
-    go (char x) none = refl
-    go (char x) (some ps) = refl
+    go (char x) None = refl
+    go (char x) (Some ps) = refl
     go opening o = refl
-    go separator none = refl
-    go separator (some ps) = refl
+    go separator None = refl
+    go separator (Some ps) = refl
     go fault o = refl
 
 -- a single TEXT has no separator
@@ -88,8 +87,8 @@ text_is (b ∷ s) after =
     ap is_read (text_step after b s) ∙ go (sign_of after 0 b) (text_from (opens after b) s) (separator_none after b) ∙ rw (sign_good after 0 b, text_is s (opens after b))
   where
     go : (g : Sign) (o : Option (List ℕ)) → is_separator g ≡ false → is_read (text_sign g o) ≡ (is_good g and is_read o)
-    go (char x) none h = refl
-    go (char x) (some t) h = refl
+    go (char x) None h = refl
+    go (char x) (Some t) h = refl
     go opening o h = refl
     go separator o h = absurd (false≢true (sym h))
     go fault o h = refl
@@ -100,14 +99,14 @@ text_alone s = text_is s false ∙ sym (split_is s false 0)
 
 -- the characters that are read
 sign_value : (after : Bool) (b : ℕ) (f : Bool → List ℕ) → in_text after 0 b ≡ true →
-    text_sign (sign_of after 0 b) (some (f (opens after b))) ≡ some (pick (opens after b) (f true) (meant after b ∷ f false))
+    text_sign (sign_of after 0 b) (Some (f (opens after b))) ≡ Some (pick (opens after b) (f true) (meant after b ∷ f false))
 unfolding pick cons_read
 sign_value after b f h = go after (is_newline b) (is_escaped b) (eqb b 92) (is_break b) (eqb b 0) (separator_none after b) h
   where
     go : (after n e k h x : Bool) → is_separator (pick after (pick n (char 10) (pick e (char b) fault)) (pick k opening (pick h (pick x separator fault) (char b)))) ≡ false →
         pick after (pick n true e) (pick k true (pick h x true)) ≡ true →
-        text_sign (pick after (pick n (char 10) (pick e (char b) fault)) (pick k opening (pick h (pick x separator fault) (char b)))) (some (f (pick after false k)))
-        ≡ some (pick (pick after false k) (f true) (pick after (pick n 10 b) b ∷ f false))
+        text_sign (pick after (pick n (char 10) (pick e (char b) fault)) (pick k opening (pick h (pick x separator fault) (char b)))) (Some (f (pick after false k)))
+        ≡ Some (pick (pick after false k) (f true) (pick after (pick n 10 b) b ∷ f false))
     go true true e k h x p q = refl
     go true false true k h x p q = refl
     go true false false k h x p q = absurd (false≢true q)
@@ -116,7 +115,7 @@ sign_value after b f h = go after (is_newline b) (is_escaped b) (eqb b 92) (is_b
     go false n e false true false p q = absurd (false≢true q)
     go false n e false false x p q = refl
 
-pub text_value : (s : List ℕ) (after : Bool) → is_split after 0 s ≡ true → text_from after s ≡ some (unescaped after s)
+pub text_value : (s : List ℕ) (after : Bool) → is_split after 0 s ≡ true → text_from after s ≡ Some (unescaped after s)
 unfolding is_split unescaped pick
 text_value [] true h = absurd (false≢true h)
 text_value [] false h = text_end false
@@ -125,6 +124,11 @@ text_value (b ∷ s) after h =
     text_step after b s ∙ ap (text_sign (sign_of after 0 b)) (text_value s (opens after b) q.1) ∙ sign_value after b (λ a. unescaped a s) q.0
 
 -- ---- a reader's loop: v is what it is to answer
+
+not_is : (a : Bool) → not a ≡ pick a false true
+unfolding pick
+not_is true = refl
+not_is false = refl
 
 module _ {v : Bool} {m : ℕ} {s : List ℕ} {c : ℕ} {r : Step} (p : Reads m s c r) (after : Bool) (sep : ℕ) where
   pub text_more : {t after' : Bool} → v ≡ is_split after sep (rest m s c) → (r.u ≡ 256 → ⊥) → t ≡ in_text after sep r.u → t ≡ true → after' ≡ opens after r.u →
@@ -136,8 +140,8 @@ module _ {v : Bool} {m : ℕ} {s : List ℕ} {c : ℕ} {r : Step} (p : Reads m s
   unfolding is_split ◌and◌
   text_stop e h k l = sym (e ∙ rw (rest_byte p h, ← k, l))
 
-  pub text_over : {a : Bool} → v ≡ is_split after sep (rest m s c) → r.u ≡ 256 → a ≡ pick after false true → a ≡ v
+  pub text_over : v ≡ is_split after sep (rest m s c) → r.u ≡ 256 → not after ≡ v
   unfolding is_split
-  text_over e h k = k ∙ sym (e ∙ rw (rest_end p h))
+  text_over e h = rw (not_is after) (sym (e ∙ rw (rest_end p h)))
 
 pub ruleset reading_text = (text_more, text_stop, text_over, split_is, rules)

@@ -1,8 +1,7 @@
 -- Laws of what specs/Uri.antt defines.
 --     uri_read_back, uri_kept, uri_accepted, uri_visible, uri_unquoted
-use Rattle.std.specs.Prelude.{◌≡◌, refl, Bool, true, false, List, [], ◌∷◌, ℕ, ◌≤◌, eqb}
+use Rattle.std.specs.Prelude.{◌≡◌, refl, Bool, true, false, List, [], ◌∷◌, ℕ, ◌≤◌, eqb, None, Some}
 use Rattle.std.proofs.Common.{◌∙◌, arith, ne_eqb, le-leb}
-use Rattle.std.proofs.Math.Option.{none, some}
 use Rattle.octets.specs.Pick.{pick, ◌and◌, ◌or◌, within}
 use Rattle.octets.specs.laws.Pick.{pick_yes, within_yes, or_left, and_both, or_cases, or_neither, within_range, pick_second, eqb_passes}
 use Rattle.octets.specs.Scan.{all_of}
@@ -13,13 +12,13 @@ use Rattle.octets.specs.laws.Words.{all_without}
 use Rattle.octets.specs.laws.Reading.{provided-some}
 use Rattle.texts.specs.Uri.{is_scheme_char, is_outside, is_uri_char, in_uri, uri_from, is_uri, read_uri}
 
-pub uri_read_back : (v : List ℕ) → is_uri v ≡ true → read_uri v ≡ some v
-uri_read_back v h = pick_yes (is_uri v) (some v) none h
+pub uri_read_back : (v : List ℕ) → is_uri v ≡ true → read_uri v ≡ Some v
+uri_read_back v h = pick_yes (is_uri v) (Some v) None h
 
-pub uri_kept : (s v : List ℕ) → read_uri s ≡ some v → s ≡ v
+pub uri_kept : (s v : List ℕ) → read_uri s ≡ Some v → s ≡ v
 uri_kept s v h = (provided-some (is_uri s) s v h).1
 
-pub uri_accepted : (s v : List ℕ) → read_uri s ≡ some v → is_uri v ≡ true
+pub uri_accepted : (s v : List ℕ) → read_uri s ≡ Some v → is_uri v ≡ true
 uri_accepted s v h = rw (← (uri_kept s v h)) (provided-some (is_uri s) s v h).0
 
 -- a character that shows and is no double quote

@@ -2,11 +2,10 @@
 --     xml_..      the ways that the first goes on and ends;   `search writing_xml`
 --     text_each_of  the second writes escape_text of each byte
 --     put_read, put_unread, put_two   what was written, from what was read
-use Rattle.std.specs.Prelude.{◌≡◌, refl, Bool, true, List, [], ◌∷◌, ◌++◌, ℕ, ◌*◌, ◌^◌, ◌<◌, length}
+use Rattle.std.specs.Prelude.{◌≡◌, refl, Bool, true, List, [], ◌∷◌, ◌++◌, ℕ, ◌*◌, ◌^◌, ◌<◌, length, Option, None, Some}
 use Rattle.std.proofs.Common.{sym, ap, ◌∙◌}
 use Rattle.std.proofs.Math.Bool.{false}
 use Rattle.std.proofs.lemmas.Bool.{false≢true}
-use Rattle.std.proofs.Math.Option.{Option, none, some}
 use Rattle.octets.specs.Pick.{pick}
 use Rattle.octets.specs.Append.{◌⊕◌}
 use Rattle.octets.specs.Reading.{is_read, or_nothing}
@@ -51,17 +50,17 @@ pub ruleset writing_xml = (xml_open, xml_char, xml_end, writing)
 
 -- ---- what was read, written
 
-module _ {d : List ℕ} {at : ℕ} {t a : Bool} (l : List ℕ) (q : t ≡ a) (h : a ≡ is_read (read_text l)) where
+module _ {d : List ℕ} {at : ℕ} {t : Bool} (l : List ℕ) (h : t ≡ is_read (read_text l)) where
   pub put_read : {e : List ℕ} {r : ℕ} → t ≡ true → Put d e at r (escaped (unescaped false l)) → Put d e at r (or_nothing escaped (read_text l))
-  put_read k p = rw (text_value l false (sym (text_is l false) ∙ sym h ∙ sym q ∙ k)) p
+  put_read k p = rw (text_value l false (sym (text_is l false) ∙ sym h ∙ k)) p
 
   pub put_unread : t ≡ false → length d * 1 < 2 ^ 63 → Put d d at at (or_nothing escaped (read_text l))
   unfolding is_read
-  put_unread k z = go (read_text l) (sym k ∙ q ∙ h)
+  put_unread k z = go (read_text l) (sym k ∙ h)
     where
       go : (o : Option (List ℕ)) → false ≡ is_read o → Put d d at at (or_nothing escaped o)
-      go none x = put_none d at z
-      go (some v) x = absurd (false≢true x)
+      go None x = put_none d at z
+      go (Some v) x = absurd (false≢true x)
 
 -- ---- escaped
 

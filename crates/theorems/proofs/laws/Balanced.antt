@@ -2,13 +2,12 @@
 --     closes es n       these entries end n components that were begun before them, and every one that they begin
 --     nesting-closes    lines that are not refused do, with as many as are open
 --     own_ahead, inner_ahead, inner_joined    what such entries state, with others behind them
-use Rattle.std.specs.Prelude.{◌≡◌, Bool, ℕ, zero, suc, ◌<◌, length}
+use Rattle.std.specs.Prelude.{◌≡◌, Bool, ℕ, zero, suc, ◌<◌, length, Option, None, Some}
 use Rattle.std.proofs.Math.Path.{refl}
 use Rattle.std.proofs.Common.{ap, ◌∙◌, arith}
 use Rattle.std.proofs.Math.Bool.{true, false}
 use Rattle.std.proofs.lemmas.Bool.{false≢true}
 use mathlib.Core.List.{List, [], ◌∷◌, map}
-use Rattle.std.proofs.Math.Option.{Option, none, some}
 use Rattle.octets.specs.Ascii.{ascii}
 use Rattle.octets.specs.Pick.{pick}
 use Rattle.octets.specs.Append.{◌⊕◌}
@@ -71,8 +70,8 @@ ends_one k ps (f ∷ st) u h =
     omega arith
 
 holds_on : (o : Option Fault) (v u : List Open) → told o (on v) ≡ on u → length u ≡ length v
-holds_on none v u h = as_many v u h
-holds_on (some r) v u h = stop-on h
+holds_on None v u h = as_many v u h
+holds_on (Some r) v u h = stop-on h
 
 -- a property stands in the innermost
 states_none : (l : ContentLine) (st u : List Open) → states l st ≡ on u → (length u ≡ length st) × (0 < length st)
@@ -108,8 +107,8 @@ module _ (ed : Edition) where
       by l true false false k = let p = states_none l st u k in closes-property l es _ p.1 (closes_as es _ _ p.0 h)
 
       go : (o : Option ContentLine) → move_of o st ≡ on u → closes (entry_by o ∷ es) (length st) ≡ true
-      go none k = stop-on k
-      go (some l) k = by l (names_carried l) (same (upper l.name) (ascii "BEGIN")) (same (upper l.name) (ascii "END")) k
+      go None k = stop-on k
+      go (Some l) k = by l (names_carried l) (same (upper l.name) (ascii "BEGIN")) (same (upper l.name) (ascii "END")) k
 
   -- ---- all lines
 

@@ -1,11 +1,10 @@
 -- Calls: what an accepted one states, and what it gives.
 --     given           what an accepted call states, and that its XML is the document of this
 --     states_accepted a call whose text states a calendar, with room for its document, is accepted
-use Rattle.std.specs.Prelude.{◌≡◌, refl, Bool, List, [], ◌∷◌, ℕ, ◌≤◌, leb, length}
+use Rattle.std.specs.Prelude.{◌≡◌, refl, Bool, List, [], ◌∷◌, ℕ, ◌≤◌, leb, length, Some}
 use Rattle.std.proofs.Common.{sym, ap, ◌∙◌, le-leb}
 use Rattle.std.proofs.Math.Bool.{true, false}
 use Rattle.std.proofs.lemmas.Bool.{false≢true}
-use Rattle.std.proofs.Math.Option.{some}
 use Rattle.std.proofs.Math.ListN.{take, drop}
 use Rattle.octets.specs.Pick.{pick}
 use Rattle.octets.specs.Append.{◌⊕◌}
@@ -41,8 +40,8 @@ accepted_same c d e = cc
 
 -- the edition that a call's number names
 pub calls_by_number : (ed : Edition) (s w d : List ℕ) →
-    (to_xml_outcome s w d (edition_number ed) ≡ outcome (to_xml (some ed) s (length w)) (length d)) × (to_xml_output s w d (edition_number ed) ≡ contents (to_xml (some ed) s (length w)) d)
-    × (to_text_outcome s d (edition_number ed) ≡ outcome (to_text (some ed) s) (length d)) × (to_text_output s d (edition_number ed) ≡ contents (to_text (some ed) s) d)
+    (to_xml_outcome s w d (edition_number ed) ≡ outcome (to_xml (Some ed) s (length w)) (length d)) × (to_xml_output s w d (edition_number ed) ≡ contents (to_xml (Some ed) s (length w)) d)
+    × (to_text_outcome s d (edition_number ed) ≡ outcome (to_text (Some ed) s) (length d)) × (to_text_output s d (edition_number ed) ≡ contents (to_text (Some ed) s) d)
 calls_by_number ed s w d = let e = number_back ed in (rw e, rw e, rw e, rw e)
 
 module _ (ed : Edition) where
@@ -78,7 +77,7 @@ module _ (ed : Edition) where
 
   pub states_accepted : (k : Call) (c : Calendar) → States ed k c → length (write_document c) ≤ length k.output → (is_accepted ed k ≡ true) × (xml_of ed k ≡ write_document c)
   unfolding to_xml
-  states_accepted k c s l = result_given (to_xml (some ed) k.input (length k.work)) (write_document c) k.output (ap (converted write_document) s) l
+  states_accepted k c s l = result_given (to_xml (Some ed) k.input (length k.work)) (write_document c) k.output (ap (converted write_document) s) l
 
   -- a text states one calendar at most
   pub states_one : (k : Call) (c d : Calendar) → States ed k c → States ed k d → c ≡ d

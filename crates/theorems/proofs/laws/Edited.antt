@@ -2,11 +2,10 @@
 --     Edited c d p q    the calendars c and d are one with a gap, filled with p and with q
 --     text_edited       what such texts state
 --     Gives, edited_apart    what is written of them, by any writer
-use Rattle.std.specs.Prelude.{◌≡◌, true, ℕ, length}
+use Rattle.std.specs.Prelude.{◌≡◌, true, ℕ, length, None}
 use Rattle.std.proofs.Math.Path.{refl}
 use Rattle.std.proofs.Common.{sym, ap, ◌∙◌}
 use mathlib.Core.List.{List, [], ◌∷◌, map}
-use Rattle.std.proofs.Math.Option.{none}
 use Rattle.octets.specs.Pick.{pick}
 use Rattle.octets.specs.Append.{◌⊕◌}
 use Rattle.octets.specs.Runs.{run_of}
@@ -32,7 +31,7 @@ pub record Edited (c d : Calendar) (p q : Property) : Type 0 where
 module _ (ed : Edition) where
   -- ---- the lines of one text
 
-  no_line : content_line [] ≡ none
+  no_line : content_line [] ≡ None
   unfolding content_line run_of span_len pick
   no_line = refl
 

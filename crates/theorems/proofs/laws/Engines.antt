@@ -1,9 +1,8 @@
 -- What the proofs of specs/Engines.antt need.
 --     room_is_room    a work room that is long enough may as well be as long as the text
 --     workless        with such a room WORK is not answered: no fault of a line or of a character is WORK
-use Rattle.std.specs.Prelude.{◌≡◌, refl, Bool, true, false, List, [], ◌∷◌, ℕ, ◌≤◌, leb, length}
+use Rattle.std.specs.Prelude.{◌≡◌, refl, Bool, true, false, List, [], ◌∷◌, ℕ, ◌≤◌, leb, length, Option, None, Some}
 use Rattle.std.proofs.Common.{sym, subst, arith, le-leb}
-use Rattle.std.proofs.Math.Option.{Option, none, some}
 use Rattle.octets.specs.Ascii.{ascii}
 use Rattle.octets.specs.Pick.{pick}
 use Rattle.octets.specs.Class.{upper}
@@ -30,8 +29,8 @@ use Rattle.calls.specs.ToXml.{to_xml}
 
 pub room_is_room : (o : Option Edition) (s : List ℕ) (room : ℕ) → length s ≤ room → to_xml o s (length s) ≡ to_xml o s room
 unfolding to_xml read_calendar text_verdict pick
-room_is_room (some ed) s room h = rw (le-leb (length s) (length s) (omega arith), le-leb (length s) room h)
-room_is_room none s room h = rw (le-leb (length s) (length s) (omega arith), le-leb (length s) room h)
+room_is_room (Some ed) s room h = rw (le-leb (length s) (length s) (omega arith), le-leb (length s) room h)
+room_is_room None s room h = rw (le-leb (length s) (length s) (omega arith), le-leb (length s) room h)
 
 -- ---- no fault is WORK
 
@@ -50,8 +49,8 @@ VerdictOther fine = Unit {0}
 VerdictOther (refuse r p) = Other r
 
 abbrev Faults : Option Fault → Type 0
-Faults none = Unit {0}
-Faults (some f) = FaultOther f
+Faults None = Unit {0}
+Faults (Some f) = FaultOther f
 
 either : (P : Move → Type 0) (t : Bool) {a b : Move} → P a → P b → P (pick t a b)
 unfolding pick
@@ -59,13 +58,13 @@ either P true x y = x
 either P false x y = y
 
 line_other : (w : Option Where) (read : Bool) → Faults (line_fault w read)
-line_other (some w) read = λ e. omega (arith, e)
-line_other none true = tt
-line_other none false = λ e. omega (arith, e)
+line_other (Some w) read = λ e. omega (arith, e)
+line_other None true = tt
+line_other None false = λ e. omega (arith, e)
 
 told_other : (f : Option Fault) (m : Move) → Faults f → MoveOther m → MoveOther (told f m)
-told_other none m h k = k
-told_other (some f) m h k = h
+told_other None m h k = k
+told_other (Some f) m h k = h
 
 begins_other : (k : List ℕ) (ps : List RawParameter) (st : List Open) → MoveOther (begins k ps st)
 unfolding begins
@@ -90,8 +89,8 @@ states_other (f ∷ st) l = either MoveOther (may_hold (upper l.name) f) (told_o
 
 move_other : (o : Option ContentLine) (st : List Open) → MoveOther (move_of o st)
 unfolding move_of move_by
-move_other none st = λ e. omega (arith, e)
-move_other (some l) st =
+move_other None st = λ e. omega (arith, e)
+move_other (Some l) st =
     either MoveOther (names_carried l)
     (either MoveOther (same (upper l.name) (ascii "BEGIN")) (begins_other (upper l.value) l.parameters st)
     (either MoveOther (same (upper l.name) (ascii "END")) (ends_other st (upper l.value) l.parameters) (states_other st l)))
@@ -123,8 +122,8 @@ unfolding kept_verdict ◌otherwise◌
 kept_other ed u = go (first_bad u)
   where
     go : (o : Option ℕ) → VerdictOther (characters o otherwise lines_verdict ed (length u) (lines u))
-    go none = lines_other (lines u) ed (length u)
-    go (some p) = λ x. omega (arith, x)
+    go None = lines_other (lines u) ed (length u)
+    go (Some p) = λ x. omega (arith, x)
 
 -- ---- no outcome is
 
@@ -147,12 +146,12 @@ placed_other s (refuse r p) c n h = h
 
 outcome_other : (o : Option Edition) (s : List ℕ) (n : ℕ) → OutcomeOther (outcome (to_xml o s (length s)) n)
 unfolding to_xml read_calendar text_verdict pick outcome
-outcome_other (some ed) s n = rw (le-leb (length s) (length s) (omega arith)) (go (leb (length s) 65535))
+outcome_other (Some ed) s n = rw (le-leb (length s) (length s) (omega arith)) (go (leb (length s) 65535))
   where
     go : (t : Bool) → OutcomeOther (outcome (converted write_document (answer (pick t (placed s (kept_verdict ed (unfolded s))) (refuse LENGTH 0)) (calendar_of ed (lines (unfolded s))))) n)
     go true = placed_other s (kept_verdict ed (unfolded s)) (calendar_of ed (lines (unfolded s))) n (kept_other ed (unfolded s))
     go false = λ x. omega (arith, x)
-outcome_other none s n = rw (le-leb (length s) (length s) (omega arith)) (go (leb (length s) 65535))
+outcome_other None s n = rw (le-leb (length s) (length s) (omega arith)) (go (leb (length s) 65535))
   where
     go : (t : Bool) → OutcomeOther (outcome (pick t (refused_with EDITION 0) (refused_with LENGTH 0)) n)
     go true = λ x. omega (arith, x)

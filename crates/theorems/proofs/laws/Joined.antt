@@ -3,12 +3,11 @@
 --     joined_accepts    two accepted texts, joined, are accepted and state the calendars of both
 --     in_order_one      the calendars of one alone
 --     components_joined, inside_document, inside_one    their XML
-use Rattle.std.specs.Prelude.{◌≡◌, Bool, ℕ, length}
+use Rattle.std.specs.Prelude.{◌≡◌, Bool, ℕ, length, None}
 use Rattle.std.proofs.Math.Path.{refl}
 use Rattle.std.proofs.Common.{sym, ap, ◌∙◌, eqb-true}
 use Rattle.std.proofs.Math.Bool.{true, false}
 use mathlib.Core.List.{List, [], ◌∷◌, map, append_cancel_left, append_cancel_right}
-use Rattle.std.proofs.Math.Option.{none}
 use Rattle.std.proofs.Math.Dec.{eqb}
 use Rattle.octets.specs.Ascii.{ascii}
 use Rattle.octets.specs.Pick.{pick, ◌and◌, ◌or◌}
@@ -46,7 +45,7 @@ map_both f (x ∷ a) b = ap (λ l. f x ∷ l) (map_both f a b)
 -- ---- the seam
 
 -- a line that begins with no letter, digit or hyphen is none
-no_name : (b : ℕ) (s : List ℕ) → is_name_char b ≡ false → content_line (b ∷ s) ≡ none
+no_name : (b : ℕ) (s : List ℕ) → is_name_char b ≡ false → content_line (b ∷ s) ≡ None
 unfolding content_line run_of span_len pick
 no_name b s h = rw h
 

@@ -1,9 +1,8 @@
 -- The document of a valid calendar, in front of anything.
 --     calendar_in_front    in what is written of a calendar no character data follows an end tag
 --     document_end_lem     it ends where it ends, whatever follows
-use Rattle.std.specs.Prelude.{◌≡◌, refl, Bool, true, false, List, [], ◌∷◌, ℕ, length}
+use Rattle.std.specs.Prelude.{◌≡◌, refl, Bool, true, false, List, [], ◌∷◌, ℕ, length, Option, None, Some}
 use Rattle.std.proofs.lemmas.Bool.{false≢true}
-use Rattle.std.proofs.Math.Option.{Option, none, some}
 use Rattle.octets.specs.Ascii.{ascii}
 use Rattle.octets.specs.Pick.{◌and◌}
 use Rattle.octets.specs.laws.Pick.{pick_either, and_yes}
@@ -66,8 +65,8 @@ parts_tags [] next t = t
 parts_tags (p ∷ ps) next t = items_tags (lower p.part) p.items _ (parts_tags ps next t)
 
 status_tags : (x : Option (List ℕ)) (next : Content) → Tags next → Tags (data_before x next)
-status_tags none next t = t
-status_tags (some s) next t = leaf_tags (ascii "data") s next t
+status_tags None next t = t
+status_tags (Some s) next t = leaf_tags (ascii "data") s next t
 
 inside_fits : (v : Value) → Fits (inside v)
 unfolding inside
@@ -152,6 +151,6 @@ calendar_in_front (component n ps inner next) =
 
 -- ---- the document
 
-pub document_end_lem : (ed : Edition) (c : Calendar) (more : List ℕ) → is_valid ed c ≡ true → document_end (write_document c ⊕ more) ≡ some (length (write_document c))
+pub document_end_lem : (ed : Edition) (c : Calendar) (more : List ℕ) → is_valid ed c ≡ true → document_end (write_document c ⊕ more) ≡ Some (length (write_document c))
 document_end_lem ed c more h =
     rw (document_written c) (whole_document (calendar_content c) 31 more (sound_writable (calendar_content c) 31 (calendar_sound ed c (valid_parts ed c h).1)) (tags_fit _ (calendar_in_front c)))

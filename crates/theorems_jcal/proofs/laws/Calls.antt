@@ -3,10 +3,9 @@
 --     given            what an accepted call to jCal states, and that its jCal is that of this
 --     states_accepted  a call whose text states a calendar, with room for its jCal, is accepted
 --     jcal_is, text_is what is given of a calendar that is stated
-use Rattle.std.specs.Prelude.{◌≡◌, true, List, ℕ, ◌≤◌, length}
+use Rattle.std.specs.Prelude.{◌≡◌, true, List, ℕ, ◌≤◌, length, Some}
 use Rattle.std.proofs.Common.{sym, ◌∙◌}
 use Rattle.std.proofs.Math.Path.{ap}
-use Rattle.std.proofs.Math.Option.{some}
 use Rattle.calendar.specs.Calendar.{Calendar}
 use Rattle.validity.specs.ValidCalendar.{is_valid}
 use Rattle.text.specs.ReadText.{read_calendar}
@@ -25,8 +24,8 @@ use Rattle.theorems.proofs.laws.Calls.{result_given, accepted_same, written_read
 use Rattle.theorems_jcal.specs.Calls.{is_accepted, jcal_of, is_text_accepted, text_of, StatesJcal}
 
 pub calls_by_number : (ed : Edition) (s w d : List ℕ) →
-    (to_jcal_outcome s w d (edition_number ed) ≡ outcome (to_jcal (some ed) s (length w)) (length d)) × (to_jcal_output s w d (edition_number ed) ≡ contents (to_jcal (some ed) s (length w)) d)
-    × (jcal_to_text_outcome s d (edition_number ed) ≡ outcome (jcal_to_text (some ed) s) (length d)) × (jcal_to_text_output s d (edition_number ed) ≡ contents (jcal_to_text (some ed) s) d)
+    (to_jcal_outcome s w d (edition_number ed) ≡ outcome (to_jcal (Some ed) s (length w)) (length d)) × (to_jcal_output s w d (edition_number ed) ≡ contents (to_jcal (Some ed) s (length w)) d)
+    × (jcal_to_text_outcome s d (edition_number ed) ≡ outcome (jcal_to_text (Some ed) s) (length d)) × (jcal_to_text_output s d (edition_number ed) ≡ contents (jcal_to_text (Some ed) s) d)
 calls_by_number ed s w d = let e = number_back ed in (rw e, rw e, rw e, rw e)
 
 module _ (ed : Edition) where
@@ -44,7 +43,7 @@ module _ (ed : Edition) where
 
   pub states_accepted : (k : Call) (c : Calendar) → States ed k c → length (write_jcal c) ≤ length k.output → (is_accepted ed k ≡ true) × (jcal_of ed k ≡ write_jcal c)
   unfolding to_jcal
-  states_accepted k c s l = result_given (to_jcal (some ed) k.input (length k.work)) (write_jcal c) k.output (ap (converted write_jcal) s) l
+  states_accepted k c s l = result_given (to_jcal (Some ed) k.input (length k.work)) (write_jcal c) k.output (ap (converted write_jcal) s) l
 
   pub jcal_is : (k : Call) (c : Calendar) → is_accepted ed k ≡ true → States ed k c → jcal_of ed k ≡ write_jcal c
   jcal_is k c h s = let g = given k h in g.jcal ∙ ap write_jcal (states_one ed k g.calendar c g.states s)

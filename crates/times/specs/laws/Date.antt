@@ -1,7 +1,6 @@
 -- Laws of what specs/Date.antt defines.
 --     date_read_back, date_accepted, date_visible, date_no_comma; date_exact    a date has one spelling in each
-use Rattle.std.specs.Prelude.{◌≡◌, true, false, List, ℕ, length}
-use Rattle.std.proofs.Math.Option.{some}
+use Rattle.std.specs.Prelude.{◌≡◌, true, false, List, ℕ, length, Some}
 use Rattle.std.proofs.Common.{eqb-true}
 use Rattle.octets.specs.Pick.{◌and◌}
 use Rattle.octets.specs.laws.Pick.{and_both}
@@ -21,17 +20,17 @@ pub date_chars : Chars is_date
 unfolding is_date
 date_chars v h = chars_digits v (and_both _ _ (and_both _ _ h).1).0
 
-pub date_read_back : (f : Format) (v : List ℕ) → is_date v ≡ true → read_date f (write_date f v) ≡ some v
+pub date_read_back : (f : Format) (v : List ℕ) → is_date v ≡ true → read_date f (write_date f v) ≡ Some v
 unfolding read_date write_date fits ◌and◌
 date_read_back ical v h = keep_yes is_date v h
 date_read_back xcal v h = marked_read_back is_date date_marks v h (rw (date_length v h))
 
-pub date_accepted : (f : Format) (s v : List ℕ) → read_date f s ≡ some v → is_date v ≡ true
+pub date_accepted : (f : Format) (s v : List ℕ) → read_date f s ≡ Some v → is_date v ≡ true
 unfolding read_date
 date_accepted ical s v h = keep_accepted is_date s v h
 date_accepted xcal s v h = marked_accepted is_date (without_marks date_marks s) v h
 
-pub date_exact : (f : Format) (s v : List ℕ) → read_date f s ≡ some v → s ≡ write_date f v
+pub date_exact : (f : Format) (s v : List ℕ) → read_date f s ≡ Some v → s ≡ write_date f v
 unfolding read_date write_date
 date_exact ical s v h = keep_is is_date s v h
 date_exact xcal s v h = marked_exact is_date date_marks s v h

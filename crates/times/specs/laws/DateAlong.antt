@@ -1,10 +1,9 @@
 -- Laws of what specs/DateAlong.antt defines.
 --     eight          a list of eight characters
 --     date_along     a date is what follows the pattern to the end and is a day
-use Rattle.std.specs.Prelude.{◌≡◌, refl, Bool, true, false, List, [], ◌∷◌, ℕ, ◌+◌, ◌*◌, ◌/◌, ◌%◌, ◌≤◌, ◌<◌, eqb, length, take, drop}
+use Rattle.std.specs.Prelude.{◌≡◌, refl, Bool, true, false, List, [], ◌∷◌, ℕ, ◌+◌, ◌*◌, ◌/◌, ◌%◌, ◌≤◌, ◌<◌, eqb, length, take, drop, Option, None, Some}
 use Rattle.std.proofs.Common.{sym, ◌∙◌, drop_of_length-le, take_all, eqb-true, leb-true}
 use Rattle.std.proofs.Math.Path.{ap}
-use Rattle.std.proofs.Math.Option.{Option, none, some}
 use native.Mathlib.Omega.{arith}
 use Rattle.std.proofs.lemmas.Bool.{eqb-false}
 use Rattle.octets.specs.Pick.{pick, ◌and◌}
@@ -98,11 +97,11 @@ eight_day v l k = eight (λ (v : List ℕ). all_of is_digit v ≡ true → keep 
           ← eh,
         )
 
-pub no_digits : (v : List ℕ) → all_of is_digit v ≡ false → keep is_date v ≡ none
+pub no_digits : (v : List ℕ) → all_of is_digit v ≡ false → keep is_date v ≡ None
 unfolding keep is_date pick ◌and◌
 no_digits v e = rw (e, and_no_right (eqb (length v) 8) false refl)
 
-pub no_length : (v : List ℕ) → eqb (length v) 8 ≡ false → keep is_date v ≡ none
+pub no_length : (v : List ℕ) → eqb (length v) 8 ≡ false → keep is_date v ≡ None
 unfolding keep is_date pick ◌and◌
 no_length v e = rw e
 
@@ -120,7 +119,7 @@ date_kept : (v : List ℕ) → keep is_date v ≡ dated (along (zeros 8 []) 0 v)
 unfolding along dated digits_at pick
 date_kept v = rw (along_digits 8 [] 0 v) (go (eqb (length v) 8) refl)
   where
-    long : (t : Bool) → digits_at 8 v ≡ t → (length v ≡ 8 → ⊥) → none ≡ dated (pick t (reached (value 0 (take 8 v)) (drop 8 v)) lost)
+    long : (t : Bool) → digits_at 8 v ≡ t → (length v ≡ 8 → ⊥) → None ≡ dated (pick t (reached (value 0 (take 8 v)) (drop 8 v)) lost)
     long true e n = rw (drop_longer 8 v (omega (arith, leb-true 8 (length v) (and_both _ _ e).0)))
     long false e n = refl
 
@@ -131,8 +130,8 @@ date_kept v = rw (along_digits 8 [] 0 v) (go (eqb (length v) 8) refl)
 -- the same with marks
 marked : (o : Option (List ℕ)) → and_then o (keep is_date) ≡ dated (followed_by o (along (zeros 8 []) 0))
 unfolding and_then followed_by dated
-marked none = refl
-marked (some v) = date_kept v
+marked None = refl
+marked (Some v) = date_kept v
 
 pub date_along : (f : Format) (s : List ℕ) → read_date f s ≡ dated (along (date_pattern f) 0 s)
 unfolding read_date zeros with_marks put_mark are_marks is_mark fits pick ◌and◌
@@ -141,27 +140,27 @@ date_along xcal s = marked (without_marks date_marks s) ∙ ap dated (sym (along
 
 -- ---- the ways of a reader
 
-module _ (f : Format) {m : ℕ} {s : List ℕ} {c : ℕ} {w : Walk} (p : Walks (date_pattern f) true m s c w) where
+module _ (f : Format) {m : ℕ} {s : List ℕ} {c : ℕ} {w : Option Walk} (p : Walks (date_pattern f) true m s c w) where
   followed : read_date f (rest m s c) ≡ dated (walked true m s w)
   unfolding cased
   followed = date_along f (rest m s c) ∙ ap dated p.is
 
-  pub date_lost : w.ok ≡ false → read_date f (rest m s c) ≡ none
-  unfolding walked dated pick
+  pub date_lost : w ≡ None → read_date f (rest m s c) ≡ None
+  unfolding dated
   date_lost h = followed ∙ rw h
 
-  pub date_ended : w.ok ≡ true → is_empty (rest m s w.next) ≡ true → read_date f (rest m s c) ≡ day_from w.n
-  unfolding walked dated pick cased
+  pub date_ended : {v : Walk} → w ≡ Some v → is_empty (rest m s v.next) ≡ true → read_date f (rest m s c) ≡ day_from v.number
+  unfolding dated pick cased
   date_ended h k = followed ∙ rw (h, k)
 
-  pub date_longer : w.ok ≡ true → is_empty (rest m s w.next) ≡ false → read_date f (rest m s c) ≡ none
-  unfolding walked dated pick cased
+  pub date_longer : {v : Walk} → w ≡ Some v → is_empty (rest m s v.next) ≡ false → read_date f (rest m s c) ≡ None
+  unfolding dated pick cased
   date_longer h k = followed ∙ rw (h, k)
 
-pub day_found : (n : ℕ) → is_day (n / 10000 % 10000) (n / 100 % 100) (n % 100) ≡ true → day_from n ≡ some (date_of (n / 10000 % 10000) (n / 100 % 100) (n % 100))
+pub day_found : (n : ℕ) → is_day (n / 10000 % 10000) (n / 100 % 100) (n % 100) ≡ true → day_from n ≡ Some (date_of (n / 10000 % 10000) (n / 100 % 100) (n % 100))
 unfolding day_from pick
 day_found n h = rw h
 
-pub day_missing : (n : ℕ) → is_day (n / 10000 % 10000) (n / 100 % 100) (n % 100) ≡ false → day_from n ≡ none
+pub day_missing : (n : ℕ) → is_day (n / 10000 % 10000) (n / 100 % 100) (n % 100) ≡ false → day_from n ≡ None
 unfolding day_from pick
 day_missing n h = rw h

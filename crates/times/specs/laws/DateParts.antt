@@ -2,12 +2,11 @@
 --     date_time_parts    a DATE-TIME is read exactly where its date is read as a DATE, and what stands behind T as a TIME;   moment_parts, of the text of a date
 --     date_time_date     its date is the DATE that is read there
 --     period_parts       a PERIOD is read exactly where its start is read as a DATE-TIME, and its end as a DATE-TIME or a DURATION
-use Rattle.std.specs.Prelude.{◌≡◌, Bool, true, false, ℕ, zero, suc, ◌-◌, ◌≤◌, eqb, leb, length}
+use Rattle.std.specs.Prelude.{◌≡◌, Bool, true, false, ℕ, zero, suc, ◌-◌, ◌≤◌, eqb, leb, length, Option, None, Some}
 use Rattle.std.proofs.Math.Path.{refl, ap}
 use Rattle.std.proofs.Common.{sym, ◌∙◌, arith, take-append-drop, eqb-true, ne_eqb}
 use Rattle.std.proofs.lemmas.Bool.{false≢true, eqb-false, lt-leb}
 use mathlib.Core.List.{List, [], ◌∷◌, ◌++◌}
-use Rattle.std.proofs.Math.Option.{Option, none, some}
 use Rattle.std.proofs.Math.ListN.{take, drop}
 use Rattle.octets.specs.Pick.{pick, ◌and◌, ◌or◌}
 use Rattle.octets.specs.laws.Pick.{and_both, and_yes, and_no_right, or-false}
@@ -126,7 +125,7 @@ module _ (d t : List ℕ) (h : is_date d ≡ true) where
   unfolding write_date with_marks put_mark ◌⊕◌
   marked_behind = eight (λ (d : List ℕ). drop 10 (write_date xcal d ⊕ (84 ∷ t)) ≡ 84 ∷ t) (λ a b c d e f g h. refl) d (date_length d h)
 
-is_read_lem : {o : Option (List ℕ)} {v : List ℕ} → o ≡ some v → is_read o ≡ true
+is_read_lem : {o : Option (List ℕ)} {v : List ℕ} → o ≡ Some v → is_read o ≡ true
 unfolding is_read
 is_read_lem e = ap is_read e
 
@@ -136,14 +135,14 @@ both_ways false true p q = q refl
 both_ways false false p q = refl
 
 -- in XML: what stands before T is read as a date, what stands behind it as a time
-module _ (s v : List ℕ) (e : read_date_time xcal s ≡ some v) where
+module _ (s v : List ℕ) (e : read_date_time xcal s ≡ Some v) where
   found : Parts v
   found = parted v (date_time_accepted xcal s v e)
 
   found_is : s ≡ write_date xcal found.d ⊕ (84 ∷ write_time xcal found.t)
   found_is = date_time_exact s v e ∙ ap (write_date_time xcal) found.is ∙ written_parts found.d found.t found.date
 
-  found_date : read_date xcal (take 10 s) ≡ some found.d
+  found_date : read_date xcal (take 10 s) ≡ Some found.d
   found_date =
       ap (λ (x : List ℕ). read_date xcal (take 10 x)) found_is ∙ ap (read_date xcal) (marked_front found.d (write_time xcal found.t) found.date)
       ∙ date_read_back xcal found.d found.date
@@ -154,7 +153,7 @@ module _ (s v : List ℕ) (e : read_date_time xcal s ≡ some v) where
       ap (λ (x : List ℕ). time_behind xcal (drop 10 x)) found_is ∙ ap (time_behind xcal) (marked_behind found.d (write_time xcal found.t) found.date)
       ∙ ap is_read (time_read_back xcal found.t found.time)
 
-joined_read : (s d : List ℕ) → read_date xcal (take 10 s) ≡ some d → time_behind xcal (drop 10 s) ≡ true → is_read (read_date_time xcal s) ≡ true
+joined_read : (s d : List ℕ) → read_date xcal (take 10 s) ≡ Some d → time_behind xcal (drop 10 s) ≡ true → is_read (read_date_time xcal s) ≡ true
 unfolding is_read ◌⊕◌
 joined_read s d e h = go (drop 10 s) (take-append-drop 10 s) h
   where
@@ -188,16 +187,16 @@ date_time_parts xcal s =
         and_yes (is_read (read_date xcal (take 10 s))) (time_behind xcal (drop 10 s)) (is_read_lem (found_date s v.0 v.1)) (found_time s v.0 v.1)
 
 -- and its date is the front of what is kept
-pub date_time_date : (f : Format) (s v : List ℕ) → read_date_time f s ≡ some v → read_date f (take (date_width f) s) ≡ some (take 8 v)
+pub date_time_date : (f : Format) (s v : List ℕ) → read_date_time f s ≡ Some v → read_date f (take (date_width f) s) ≡ Some (take 8 v)
 unfolding read_date_time read_date is_date_time is_date
 date_time_date ical s v e =
     let u : upper s ≡ v = keep_is is_date_time (upper s) v e in
     let front : take 8 v ≡ upper (take 8 s) = ap (take 8) (sym u) ∙ take-upper 8 s in
     let d : is_date (take 8 s) ≡ true = sym (date_upper (take 8 s)) ∙ ap is_date (sym front) ∙ (and_both (is_date (take 8 v)) (begins 84 is_time (drop 8 v)) (date_time_accepted ical s v e)).0 in
-    keep_yes is_date (take 8 s) d ∙ ap some (sym (front ∙ chars_upper (take 8 s) (date_chars (take 8 s) d)))
+    keep_yes is_date (take 8 s) d ∙ ap Some (sym (front ∙ chars_upper (take 8 s) (date_chars (take 8 s) d)))
 date_time_date xcal s v e =
     let p = found s v e in
-    found_date s v e ∙ ap some (sym (ap (take 8) p.is ∙ date_front p.d p.t p.date))
+    found_date s v e ∙ ap Some (sym (ap (take 8) p.is ∙ date_front p.d p.t p.date))
 
 -- ---- PERIOD is read exactly where its start is read by read_date_time, and its end by read_date_time or its duration by read_duration
 
@@ -206,10 +205,10 @@ unfolding period_from read_date_time is_read and_then pick ◌or◌
 period_end start r = go (is_date_time (upper r)) (read_duration ical r) ∙ rw (keep_read is_date_time (upper r))
   where
     go : (t : Bool) (o : Option (List ℕ)) →
-        is_read (pick t (some (period_explicit start (upper r))) (and_then o (λ d. some (period_start start d)))) ≡ (t or is_read o)
+        is_read (pick t (Some (period_explicit start (upper r))) (and_then o (λ d. Some (period_start start d)))) ≡ (t or is_read o)
     go true o = refl
-    go false none = refl
-    go false (some d) = refl
+    go false None = refl
+    go false (Some d) = refl
 
 pub period_parts : (s : List ℕ) →
     is_read (read_period s) ≡ (is_read (read_date_time ical (before_slash s)) and (is_read (read_date_time ical (behind_slash s)) or is_read (read_duration ical (behind_slash s))))
@@ -218,8 +217,8 @@ period_parts s = go (read_date_time ical (before_slash s)) (behind_slash s)
   where
     go : (o : Option (List ℕ)) (r : List ℕ) →
         is_read (and_then o (λ start. period_from start r)) ≡ (is_read o and (is_read (read_date_time ical r) or is_read (read_duration ical r)))
-    go none r = refl
-    go (some start) r = period_end start r
+    go None r = refl
+    go (Some start) r = period_end start r
 
 -- ---- the text of a date with T and any characters behind it
 module _ (y m d : ℕ) (t : List ℕ) where

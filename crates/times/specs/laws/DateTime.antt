@@ -1,10 +1,9 @@
 -- Laws of what specs/DateTime.antt defines.
 --     date_time_read_back, date_time_accepted, date_time_visible, date_time_no_comma, date_time_no_slash; date_time_exact    XML has one spelling of a date-time
 --     date_time_no_date, date_no_date_time    in neither format is one read as the other
-use Rattle.std.specs.Prelude.{◌≡◌, refl, true, false, List, [], ◌∷◌, ℕ, ◌≤◌, ◌<◌, length, take, drop}
+use Rattle.std.specs.Prelude.{◌≡◌, refl, true, false, List, [], ◌∷◌, ℕ, ◌≤◌, ◌<◌, length, take, drop, Option, None, Some}
 use Rattle.std.proofs.Common.{sym, ap, ◌∙◌, arith, length-drop}
 use Rattle.std.proofs.lemmas.Bool.{false≢true}
-use Rattle.std.proofs.Math.Option.{Option, none, some}
 use Rattle.octets.specs.Pick.{◌and◌, ◌or◌}
 use Rattle.octets.specs.laws.Pick.{and_both}
 use Rattle.octets.specs.Scan.{all_of}
@@ -43,17 +42,17 @@ marks_fit : (v : List ℕ) → is_date_time v ≡ true → fits date_time_marks 
 unfolding fits ◌and◌
 marks_fit v h = fits_longer date_time_marks 15 (length v) refl (date_time_length v h)
 
-pub date_time_read_back : (f : Format) (v : List ℕ) → is_date_time v ≡ true → read_date_time f (write_date_time f v) ≡ some v
+pub date_time_read_back : (f : Format) (v : List ℕ) → is_date_time v ≡ true → read_date_time f (write_date_time f v) ≡ Some v
 unfolding read_date_time write_date_time
 date_time_read_back ical v h = rw (chars_upper v (date_time_chars v h)) (keep_yes is_date_time v h)
 date_time_read_back xcal v h = marked_read_back is_date_time date_time_marks v h (marks_fit v h)
 
-pub date_time_accepted : (f : Format) (s v : List ℕ) → read_date_time f s ≡ some v → is_date_time v ≡ true
+pub date_time_accepted : (f : Format) (s v : List ℕ) → read_date_time f s ≡ Some v → is_date_time v ≡ true
 unfolding read_date_time
 date_time_accepted ical s v h = keep_accepted is_date_time (upper s) v h
 date_time_accepted xcal s v h = marked_accepted is_date_time (without_marks date_time_marks s) v h
 
-pub date_time_exact : (s v : List ℕ) → read_date_time xcal s ≡ some v → s ≡ write_date_time xcal v
+pub date_time_exact : (s v : List ℕ) → read_date_time xcal s ≡ Some v → s ≡ write_date_time xcal v
 unfolding read_date_time write_date_time
 date_time_exact s v h = marked_exact is_date_time date_time_marks s v h
 
@@ -79,21 +78,21 @@ written_lengths xcal d v h k = omega (arith, date_length d h, date_time_length v
 written_otherwise : (f : Format) (d v : List ℕ) → is_date d ≡ true → is_date_time v ≡ true → write_date f d ≡ write_date_time f v → ⊥
 written_otherwise f d v h k e = omega (arith, written_lengths f d v h k, ap length e)
 
-pub date_time_no_date : (f : Format) (v : List ℕ) → is_date_time v ≡ true → read_date f (write_date_time f v) ≡ none
+pub date_time_no_date : (f : Format) (v : List ℕ) → is_date_time v ≡ true → read_date f (write_date_time f v) ≡ None
 date_time_no_date f v h = go (read_date f (write_date_time f v)) refl
   where
-    go : (o : Option (List ℕ)) → read_date f (write_date_time f v) ≡ o → o ≡ none
-    go none e = refl
-    go (some d) e = absurd (written_otherwise f d v (date_accepted f _ d e) h (sym (date_exact f _ d e)))
+    go : (o : Option (List ℕ)) → read_date f (write_date_time f v) ≡ o → o ≡ None
+    go None e = refl
+    go (Some d) e = absurd (written_otherwise f d v (date_accepted f _ d e) h (sym (date_exact f _ d e)))
 
-read_as_written : (f : Format) (d v : List ℕ) → is_date d ≡ true → read_date_time f (write_date f d) ≡ some v → write_date f d ≡ write_date_time f v
+read_as_written : (f : Format) (d v : List ℕ) → is_date d ≡ true → read_date_time f (write_date f d) ≡ Some v → write_date f d ≡ write_date_time f v
 unfolding read_date_time write_date write_date_time
 read_as_written ical d v h k = sym (chars_upper d (date_chars d h)) ∙ keep_is is_date_time (upper d) v k
 read_as_written xcal d v h k = date_time_exact _ v k
 
-pub date_no_date_time : (f : Format) (v : List ℕ) → is_date v ≡ true → read_date_time f (write_date f v) ≡ none
+pub date_no_date_time : (f : Format) (v : List ℕ) → is_date v ≡ true → read_date_time f (write_date f v) ≡ None
 date_no_date_time f v h = go (read_date_time f (write_date f v)) refl
   where
-    go : (o : Option (List ℕ)) → read_date_time f (write_date f v) ≡ o → o ≡ none
-    go none e = refl
-    go (some d) e = absurd (written_otherwise f v d h (date_time_accepted f _ d e) (read_as_written f v d h e))
+    go : (o : Option (List ℕ)) → read_date_time f (write_date f v) ≡ o → o ≡ None
+    go None e = refl
+    go (Some d) e = absurd (written_otherwise f v d h (date_time_accepted f _ d e) (read_as_written f v d h e))

@@ -1,7 +1,6 @@
 -- Laws of what specs/Duration.antt defines.
 --     duration_read_back, duration_accepted, duration_visible, duration_no_comma, duration_no_slash
-use Rattle.std.specs.Prelude.{◌≡◌, refl, Bool, true, false, List, [], ◌∷◌, ℕ, eqb, drop}
-use Rattle.std.proofs.Math.Option.{some}
+use Rattle.std.specs.Prelude.{◌≡◌, refl, Bool, true, false, List, [], ◌∷◌, ℕ, eqb, drop, Some}
 use Rattle.std.proofs.Common.{eqb-true}
 use Rattle.octets.specs.Pick.{pick, ◌and◌, ◌or◌}
 use Rattle.octets.specs.laws.Pick.{or_left, and_both, or_cases}
@@ -66,25 +65,25 @@ unfolding is_duration unsigned_duration begins ◌and◌
 no_plus [] h = refl
 no_plus (b ∷ s) h = or_cases _ _ h (λ e. rw (eqb-true b 80 (and_both _ _ e).0)) (λ e. rw (eqb-true b 45 (and_both _ _ e).0))
 
-kept_is_read : (v : List ℕ) → is_duration v ≡ true → duration_of v ≡ some v
+kept_is_read : (v : List ℕ) → is_duration v ≡ true → duration_of v ≡ Some v
 unfolding duration_of pick
 kept_is_read v h = rw (no_plus v h) (keep_yes is_duration v h)
 
-read_is_kept : (s v : List ℕ) → duration_of s ≡ some v → is_duration v ≡ true
+read_is_kept : (s v : List ℕ) → duration_of s ≡ Some v → is_duration v ≡ true
 unfolding duration_of pick is_duration begins
 read_is_kept [] v h = keep_accepted is_duration [] v h
 read_is_kept (b ∷ s) v h = go (eqb b 43 and unsigned_duration s) refl h
   where
-    go : (t : Bool) → (eqb b 43 and unsigned_duration s) ≡ t → pick t (some s) (keep is_duration (b ∷ s)) ≡ some v → is_duration v ≡ true
+    go : (t : Bool) → (eqb b 43 and unsigned_duration s) ≡ t → pick t (Some s) (keep is_duration (b ∷ s)) ≡ Some v → is_duration v ≡ true
     go true e k = let q : s ≡ v = cc in rw (← q) (or_left _ _ (and_both _ _ e).1)
     go false e k = keep_accepted is_duration (b ∷ s) v k
 
-pub duration_read_back : (f : Format) (v : List ℕ) → is_duration v ≡ true → read_duration f (write_duration f v) ≡ some v
+pub duration_read_back : (f : Format) (v : List ℕ) → is_duration v ≡ true → read_duration f (write_duration f v) ≡ Some v
 unfolding read_duration write_duration
 duration_read_back ical v h = rw (chars_upper v (duration_chars v h)) (kept_is_read v h)
 duration_read_back xcal v h = kept_is_read v h
 
-pub duration_accepted : (f : Format) (s v : List ℕ) → read_duration f s ≡ some v → is_duration v ≡ true
+pub duration_accepted : (f : Format) (s v : List ℕ) → read_duration f s ≡ Some v → is_duration v ≡ true
 unfolding read_duration
 duration_accepted ical s v h = read_is_kept (upper s) v h
 duration_accepted xcal s v h = read_is_kept s v h

@@ -1,10 +1,9 @@
 -- Laws of what specs/DurationAt.antt defines.
 --     counting       the rules for digits and a letter, for a letter, and for what may be missing
-use Rattle.std.specs.Prelude.{◌≡◌, Bool, List, [], ◌∷◌, eqb, ltb, length, drop}
+use Rattle.std.specs.Prelude.{◌≡◌, Bool, List, [], ◌∷◌, eqb, ltb, length, drop, Option, None, Some}
 use Rattle.std.proofs.Math.Path.{refl, sym}
 use Rattle.std.proofs.Common.{ap, ◌∙◌, arith, rules}
 use Rattle.std.proofs.Math.Bool.{true, false}
-use Rattle.std.proofs.Math.Option.{Option, none, some}
 use Prim.Native.Nat.{ℕ, suc, ◌-◌, ◌*◌, ◌<◌}
 use borrow.Author.Tests.{eqb-true, eq-eqb, ne_eqb, lt-ltb, ltb-true, leb-true}
 use Rattle.octets.specs.Pick.{pick, ◌and◌, ◌or◌}
@@ -13,7 +12,8 @@ use Rattle.octets.specs.Append.{◌⊕◌}
 use Rattle.octets.specs.Scan.{span_len}
 use Rattle.octets.specs.Class.{is_digit}
 use Rattle.octets.specs.Words.{is_empty}
-use Rattle.octets.specs.Reading.{or_nothing}
+use Rattle.octets.specs.Reading.{or_nothing, is_read}
+use Rattle.octets.specs.laws.Reading.{none-some}
 use Rattle.calendar.specs.Calendar.{format_of}
 use Rattle.source.specs.Source.{rest, spell}
 use Rattle.source.specs.laws.Facts.{spell_byte, spell_end}
@@ -26,9 +26,7 @@ use Rattle.times.specs.laws.Letters.{cased_empty}
 use Rattle.times.specs.Written.{mark_bytes}
 use Rattle.times.specs.Duration.{counted, optional, unsigned_duration, is_duration, duration_of, read_duration, write_duration}
 use Rattle.times.specs.DurationAt.{Runs, span_if, span_of}
-use Rattle.times.specs.declared.duration.Run.{Run}
-use Rattle.times.specs.declared.duration.DurationRead.{DurationRead}
-use Rattle.times.specs.declared.duration.DurationRead.TheVariants.{Span, NoDuration}
+use Rattle.times.specs.declared.duration.Duration.{Duration}
 
 -- the loop: digits from `at` to c are passed
 pub record Running (e : Bool) (m : ℕ) (s : List ℕ) (at : ℕ) (any : Bool) (c : ℕ) : Type 0 where
@@ -68,18 +66,28 @@ module _ {e : Bool} {m : ℕ} {s : List ℕ} {at : ℕ} where
           left = f.left ∙ rw (k, b);
         }
 
-    pub run_done : is_digit a.u ≡ false → Runs e m s at (record { any = any; u = a.u; next = a.next })
-    run_done h =
-        let k : span_len is_digit (cased e (rest m s c)) ≡ 0 = rw p.is (span_other a.u _ h) in record {
-          some_digit = f.some_digit ∙ rw k (or-false any);
-          is = f.left ∙ rw k p.is;
-        }
+    none_left : is_digit a.u ≡ false → span_len is_digit (cased e (rest m s c)) ≡ 0
+    none_left h = rw p.is (span_other a.u _ h)
+
+    so_far : is_digit a.u ≡ false → ltb 0 (span_len is_digit (cased e (rest m s at))) ≡ any
+    so_far h = f.some_digit ∙ rw (none_left h) (or-false any)
+
+    pub run_done : is_digit a.u ≡ false → any ≡ true → Runs e m s at (Some a)
+    unfolding is_read
+    run_done h y = record {
+      some_digit = so_far h ∙ y;
+      is = λ b q. f.left ∙ rw (none_left h) (p.is ∙ ap (λ (x : Step). spell x.u (cased e (rest m s x.next))) cc);
+    }
+
+    pub run_none : is_digit a.u ≡ false → any ≡ false → Runs e m s at None
+    unfolding is_read
+    run_none h y = record { some_digit = so_far h ∙ y; is = λ b q. none-some q }
 
 -- a turn moves on
 pub run_less : {e : Bool} {m : ℕ} {s : List ℕ} {c : ℕ} {a : Step} → Spells e m s c a → is_digit a.u ≡ true → 4 * length s - a.next < 4 * length s - c
 run_less {e} {m} {s} {c} {a} p h = omega (arith, leb-true a.u 57 (and_both _ _ h).1, p.moved, p.inside)
 
-pub ruleset running = (run_start, run_more, run_done, flag_yes, flag_no, rules)
+pub ruleset running = (run_start, run_more, run_done, run_none, flag_yes, flag_no, rules)
 
 -- ---- digits and a letter, a letter, what may be missing
 
@@ -92,21 +100,21 @@ begins-spell k u rule r h = go (eqb u 256) refl
     go false e = refl
 
 module _ (k : ℕ) (rule : List ℕ → Bool) {e : Bool} {m : ℕ} {s : List ℕ} {c : ℕ} where
-  module _ {r : Run} (p : Runs e m s c r) where
-    found : r.any ≡ true → ltb k 256 ≡ true → counted k rule (cased e (rest m s c)) ≡ (eqb r.u k and rule (cased e (rest m s r.next)))
-    unfolding counted ◌and◌
-    found h l = rw (p.some_digit, h, p.is) (begins-spell k r.u rule (cased e (rest m s r.next)) l)
+  module _ {r : Option Step} (p : Runs e m s c r) where
+    found : {a : Step} → r ≡ Some a → ltb k 256 ≡ true → counted k rule (cased e (rest m s c)) ≡ (eqb a.u k and rule (cased e (rest m s a.next)))
+    unfolding counted is_read ◌and◌
+    found {a} h l = rw (p.some_digit, h, p.is a h) (begins-spell k a.u rule (cased e (rest m s a.next)) l)
 
-    pub counted_more : {t : Bool} → ltb k 256 ≡ true → r.any ≡ true → r.u ≡ k → t ≡ rule (cased e (rest m s r.next)) → t ≡ counted k rule (cased e (rest m s c))
+    pub counted_more : {a : Step} {t : Bool} → ltb k 256 ≡ true → r ≡ Some a → a.u ≡ k → t ≡ rule (cased e (rest m s a.next)) → t ≡ counted k rule (cased e (rest m s c))
     unfolding ◌and◌
-    counted_more l h q g = g ∙ sym (found h l ∙ rw (eq-eqb r.u k q))
+    counted_more {a} l h q g = g ∙ sym (found h l ∙ rw (eq-eqb a.u k q))
 
-    pub counted_other : ltb k 256 ≡ true → r.any ≡ true → (r.u ≡ k → ⊥) → false ≡ counted k rule (cased e (rest m s c))
+    pub counted_other : {a : Step} → ltb k 256 ≡ true → r ≡ Some a → (a.u ≡ k → ⊥) → eqb a.u k ≡ counted k rule (cased e (rest m s c))
     unfolding ◌and◌
-    counted_other l h q = sym (found h l ∙ rw (ne_eqb r.u k q))
+    counted_other {a} l h q = ne_eqb a.u k q ∙ sym (found h l ∙ rw (ne_eqb a.u k q))
 
-    pub counted_none : r.any ≡ false → false ≡ counted k rule (cased e (rest m s c))
-    unfolding counted ◌and◌
+    pub counted_none : r ≡ None → false ≡ counted k rule (cased e (rest m s c))
+    unfolding counted is_read ◌and◌
     counted_none h = rw (p.some_digit, h)
 
   module _ {a : Step} (p : Spells e m s c a) where
@@ -140,51 +148,51 @@ of_format true l = refl
 of_format false l = refl
 
 module _ (l : List ℕ) where
-  plus_yes : unsigned_duration l ≡ true → duration_of (43 ∷ l) ≡ some ([] ⊕ l)
+  plus_yes : unsigned_duration l ≡ true → duration_of (43 ∷ l) ≡ Some ([] ⊕ l)
   unfolding duration_of begins pick ◌and◌ ◌⊕◌
   plus_yes h = rw h
 
-  plus_no : unsigned_duration l ≡ false → duration_of (43 ∷ l) ≡ none
+  plus_no : unsigned_duration l ≡ false → duration_of (43 ∷ l) ≡ None
   unfolding duration_of is_duration unsigned_duration keep begins pick ◌and◌ ◌or◌
   plus_no h = rw h
 
-  minus_yes : unsigned_duration l ≡ true → duration_of (45 ∷ l) ≡ some ((45 ∷ []) ⊕ l)
+  minus_yes : unsigned_duration l ≡ true → duration_of (45 ∷ l) ≡ Some ((45 ∷ []) ⊕ l)
   unfolding duration_of is_duration unsigned_duration keep begins pick ◌and◌ ◌or◌ ◌⊕◌
   minus_yes h = rw h
 
-  minus_no : unsigned_duration l ≡ false → duration_of (45 ∷ l) ≡ none
+  minus_no : unsigned_duration l ≡ false → duration_of (45 ∷ l) ≡ None
   unfolding duration_of is_duration unsigned_duration keep begins pick ◌and◌ ◌or◌
   minus_no h = rw h
 
-  plain_yes : unsigned_duration l ≡ true → begins 43 unsigned_duration l ≡ false → duration_of l ≡ some ([] ⊕ l)
+  plain_yes : unsigned_duration l ≡ true → begins 43 unsigned_duration l ≡ false → duration_of l ≡ Some ([] ⊕ l)
   unfolding duration_of is_duration keep pick ◌or◌ ◌⊕◌
   plain_yes h k = rw (k, h)
 
-  plain_no : unsigned_duration l ≡ false → begins 43 unsigned_duration l ≡ false → begins 45 unsigned_duration l ≡ false → duration_of l ≡ none
+  plain_no : unsigned_duration l ≡ false → begins 43 unsigned_duration l ≡ false → begins 45 unsigned_duration l ≡ false → duration_of l ≡ None
   unfolding duration_of is_duration keep pick ◌or◌
   plain_no h k g = rw (k, h, g)
 
-module _ {x : Bool} {m : ℕ} {s : List ℕ} {c : ℕ} {a : Step} {r : DurationRead} {ok : Bool} (p : Spells x m s c a) where
-  pub duration_plus : a.u ≡ 43 → ok ≡ unsigned_duration (cased x (rest m s a.next)) → r ≡ span_if ok false a.next → read_duration (format_of x) (rest m s c) ≡ span_of x m s r
+module _ {x : Bool} {m : ℕ} {s : List ℕ} {c : ℕ} {a : Step} {r : Option Duration} (p : Spells x m s c a) where
+  pub duration_plus : a.u ≡ 43 → r ≡ span_if (unsigned_duration (cased x (rest m s a.next))) false a.next → read_duration (format_of x) (rest m s c) ≡ span_of x m s r
   unfolding pick
-  duration_plus h g k = of_format x (rest m s c) ∙ rw (k, p.is, spell_byte a.u (cased x (rest m s a.next)) (omega arith), h) (go ok g)
+  duration_plus h k = of_format x (rest m s c) ∙ rw (k, p.is, spell_byte a.u (cased x (rest m s a.next)) (omega arith), h) (go (unsigned_duration (cased x (rest m s a.next))) refl)
     where
       go : (t : Bool) → t ≡ unsigned_duration (cased x (rest m s a.next)) → duration_of (43 ∷ cased x (rest m s a.next)) ≡ span_of x m s (span_if t false a.next)
       go true e = plus_yes _ (sym e)
       go false e = plus_no _ (sym e)
 
-  pub duration_minus : a.u ≡ 45 → ok ≡ unsigned_duration (cased x (rest m s a.next)) → r ≡ span_if ok true a.next → read_duration (format_of x) (rest m s c) ≡ span_of x m s r
+  pub duration_minus : a.u ≡ 45 → r ≡ span_if (unsigned_duration (cased x (rest m s a.next))) true a.next → read_duration (format_of x) (rest m s c) ≡ span_of x m s r
   unfolding pick
-  duration_minus h g k = of_format x (rest m s c) ∙ rw (k, p.is, spell_byte a.u (cased x (rest m s a.next)) (omega arith), h) (go ok g)
+  duration_minus h k = of_format x (rest m s c) ∙ rw (k, p.is, spell_byte a.u (cased x (rest m s a.next)) (omega arith), h) (go (unsigned_duration (cased x (rest m s a.next))) refl)
     where
       go : (t : Bool) → t ≡ unsigned_duration (cased x (rest m s a.next)) → duration_of (45 ∷ cased x (rest m s a.next)) ≡ span_of x m s (span_if t true a.next)
       go true e = minus_yes _ (sym e)
       go false e = minus_no _ (sym e)
 
-  pub duration_plain : (a.u ≡ 43 → ⊥) → (a.u ≡ 45 → ⊥) → ok ≡ unsigned_duration (cased x (rest m s c)) → r ≡ span_if ok false c → read_duration (format_of x) (rest m s c) ≡ span_of x m s r
+  pub duration_plain : (a.u ≡ 43 → ⊥) → (a.u ≡ 45 → ⊥) → r ≡ span_if (unsigned_duration (cased x (rest m s c))) false c → read_duration (format_of x) (rest m s c) ≡ span_of x m s r
   unfolding pick
-  duration_plain h l g k =
-      of_format x (rest m s c) ∙ rw k (go ok g
+  duration_plain h l k =
+      of_format x (rest m s c) ∙ rw k (go (unsigned_duration (cased x (rest m s c))) refl
       (sym (begins_other 43 unsigned_duration p refl h)) (sym (begins_other 45 unsigned_duration p refl l)))
     where
       go : (t : Bool) → t ≡ unsigned_duration (cased x (rest m s c)) → begins 43 unsigned_duration (cased x (rest m s c)) ≡ false → begins 45 unsigned_duration (cased x (rest m s c)) ≡ false →
@@ -205,10 +213,10 @@ module _ {d₀ : List ℕ} {o : ℕ} {all d : List ℕ} {p : ℕ} {e : Bool} {m 
 
 pub ruleset copying = (letters_more, letters_done, writing)
 
-module _ {d e : List ℕ} {o q : ℕ} (to x : Bool) (m : ℕ) (s : List ℕ) {l : Option (List ℕ)} {r : DurationRead} (p : l ≡ span_of x m s r) where
-  pub put_span_read : {neg : Bool} {c : ℕ} → r ≡ Span neg c → Put d e o q (mark_bytes neg 45 ⊕ cased x (rest m s c)) → Put d e o q (or_nothing (write_duration (format_of to)) l)
+module _ {d e : List ℕ} {o q : ℕ} (to x : Bool) (m : ℕ) (s : List ℕ) {l : Option (List ℕ)} {r : Option Duration} (p : l ≡ span_of x m s r) where
+  pub put_span_read : {t : Duration} → r ≡ Some t → Put d e o q (mark_bytes t.negative 45 ⊕ cased x (rest m s t.at)) → Put d e o q (or_nothing (write_duration (format_of to)) l)
   unfolding write_duration
   put_span_read h w = rw (p, h) w
 
-  pub put_no_span : r ≡ NoDuration → Put d e o q [] → Put d e o q (or_nothing (write_duration (format_of to)) l)
+  pub put_no_span : r ≡ None → Put d e o q [] → Put d e o q (or_nothing (write_duration (format_of to)) l)
   put_no_span h w = rw (p, h) w

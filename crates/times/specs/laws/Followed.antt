@@ -1,5 +1,5 @@
 -- Laws of what specs/Followed.antt defines.
-use Rattle.std.specs.Prelude.{◌≡◌, refl, Bool, true, false, List, ℕ, ◌+◌, ◌*◌, ◌^◌, ◌≤◌, ◌<◌, eqb, length, drop, get_or}
+use Rattle.std.specs.Prelude.{◌≡◌, refl, Bool, true, false, List, ℕ, ◌+◌, ◌*◌, ◌^◌, ◌≤◌, ◌<◌, eqb, length, drop, get_or, None, Some}
 use Rattle.std.proofs.Common.{◌∙◌, arith, pow-suc, add-one, drop_of_length-le, rules}
 use Rattle.std.proofs.Math.Nat.{pow-le-pow_right}
 use Rattle.octets.specs.Pick.{pick}
@@ -12,7 +12,7 @@ use Rattle.times.specs.Letters.{cased, Spells}
 use Rattle.times.specs.Pattern.{lost, passes, tally, along}
 use Rattle.times.specs.laws.Pattern.{along-spell}
 use Rattle.times.specs.laws.Digits.{digit_small}
-use Rattle.times.specs.Followed.{walked, Walks}
+use Rattle.times.specs.Followed.{Walks}
 
 -- the loop: i characters of p are passed, n is the number of their digits, c the cursor after them
 pub record Following (p : List ℕ) (e : Bool) (m : ℕ) (s : List ℕ) (at n c i : ℕ) : Type 0 where
@@ -46,12 +46,12 @@ module _ {p : List ℕ} {e : Bool} {m : ℕ} {s : List ℕ} {at : ℕ} where
     unfolding pick
     follow_more g z = rw z (record { inside = omega arith; small = tally_small k n a.u i f.small; left = step ∙ rw g })
 
-    pub follow_lost : {x y : ℕ} → passes k a.u ≡ false → Walks p e m s at (record { ok = false; n = x; next = y })
-    unfolding pick walked
+    pub follow_lost : passes k a.u ≡ false → Walks p e m s at None
+    unfolding pick
     follow_lost g = record { is = step ∙ rw g }
 
-  pub follow_done : {n c i : ℕ} → Following p e m s at n c i → length p ≤ i → Walks p e m s at (record { ok = true; n = n; next = c })
-  unfolding along walked pick
+  pub follow_done : {n c i : ℕ} → Following p e m s at n c i → length p ≤ i → Walks p e m s at (Some (record { number = n; next = c }))
+  unfolding along
   follow_done {n} {c} {i} f h = record { is = f.left ∙ rw (drop_of_length-le p h) }
 
 pub ruleset following = (follow_start, follow_small, follow_more, follow_lost, follow_done, flag_yes, flag_no, rules)

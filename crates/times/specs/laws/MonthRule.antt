@@ -2,9 +2,8 @@
 --     digits_rule            eight digits are a date exactly where they are a day
 --     text_rule              and so is the text of a date read, in both formats
 --     day_read, day_found    the text of a day is read, and what is read is one
-use Rattle.std.specs.Prelude.{◌≡◌, refl, true, List, ℕ, ◌/◌, ◌%◌, ◌≤◌, ◌<◌, length}
+use Rattle.std.specs.Prelude.{◌≡◌, refl, true, List, ℕ, ◌/◌, ◌%◌, ◌≤◌, ◌<◌, length, Option, Some}
 use Rattle.std.proofs.Common.{sym, ap, ◌∙◌, arith}
-use Rattle.std.proofs.Math.Option.{Option, some}
 use Rattle.octets.specs.Pick.{pick, ◌and◌, within}
 use Rattle.octets.specs.laws.Pick.{and_both, and_yes, within_range, pick_either}
 use Rattle.octets.specs.Scan.{all_of}
@@ -90,7 +89,7 @@ day_read f s t =
     ∙ text_rule f t.year t.month t.day t.in_calendar (omega arith) (omega arith)
     ∙ and_yes (within 1 12 t.month) (within 1 (days_in_month t.year t.month) t.day) t.in_year t.in_month
 
-pub day_found : (f : Format) (s v : List ℕ) → read_date f s ≡ some v → DayOf f s
+pub day_found : (f : Format) (s v : List ℕ) → read_date f s ≡ Some v → DayOf f s
 unfolding is_date is_day day_from
 day_found f s v e =
     let h = date_accepted f s v e in

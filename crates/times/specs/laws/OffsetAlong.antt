@@ -1,10 +1,9 @@
 -- Laws of what specs/OffsetAlong.antt defines.
 --     offset_along       an offset is what follows one of the patterns to the end and is in range
-use Rattle.std.specs.Prelude.{◌≡◌, Bool, List, [], ◌∷◌, ℕ, suc, ◌+◌, ◌*◌, ◌/◌, ◌%◌, ◌≤◌, ◌<◌, length, take, drop}
+use Rattle.std.specs.Prelude.{◌≡◌, Bool, List, [], ◌∷◌, ℕ, suc, ◌+◌, ◌*◌, ◌/◌, ◌%◌, ◌≤◌, ◌<◌, length, take, drop, Option, None, Some}
 use Rattle.std.proofs.Math.Path.{refl, ap}
 use Rattle.std.proofs.Common.{sym, ◌∙◌, drop_of_length-le, take_all, rules}
 use Rattle.std.proofs.Math.Bool.{true, false}
-use Rattle.std.proofs.Math.Option.{Option, none, some}
 use native.Mathlib.Omega.{arith}
 use Rattle.std.proofs.Math.Dec.{eqb, ltb}
 use borrow.Author.Tests.{eqb-true, eqb-false, ne_eqb, leb-true, le-leb, lt-ltb, le-ltb, ltb-true, ltb-false}
@@ -30,7 +29,7 @@ use Rattle.times.specs.Letters.{cased}
 use Rattle.times.specs.Followed.{walked, Walks}
 use Rattle.times.specs.laws.Digits.{digit_is, digit_small, two_of, drop_longer}
 use Rattle.times.specs.UtcOffset.{is_shift, is_some_shift, is_utc_offset, read_utc_offset, minute_marks, second_marks}
-use Rattle.times.specs.OffsetAlong.{minute_pattern, second_pattern, followed_to_end, shift_bytes, offset_by, is_minus, offset_of, walked_to_end, WalksToEnd}
+use Rattle.times.specs.OffsetAlong.{minute_pattern, second_pattern, followed_to_end, shift_bytes, offset_by, is_minus, offset_of, WalksToEnd}
 use Rattle.times.specs.declared.follow.Walk.{Walk}
 
 -- ---- the two lengths, without marks
@@ -90,19 +89,19 @@ module _ (neg : Bool) (a b c d : ℕ) (pa : a < 10) (pb : b < 10) (pc : c < 10) 
       rw (p, q, r, x, y, z, two_of a b pa pb, two_of c d pc pd, two_of e f pe pf)
 
 -- digits of a length, followed to the end
-whole_digits : (k : ℕ) (l : List ℕ) → followed_to_end (along (zeros k []) 0 l) ≡ pick (eqb (length l) k and all_of is_digit l) (some (value 0 l)) none
+whole_digits : (k : ℕ) (l : List ℕ) → followed_to_end (along (zeros k []) 0 l) ≡ pick (eqb (length l) k and all_of is_digit l) (Some (value 0 l)) None
 unfolding along followed_to_end digits_at pick ◌and◌
 whole_digits k l = rw (along_digits k [] 0 l) (go (eqb (length l) k) refl)
   where
-    long : (t : Bool) → digits_at k l ≡ t → (length l ≡ k → ⊥) → followed_to_end (pick t (reached (value 0 (take k l)) (drop k l)) lost) ≡ none
+    long : (t : Bool) → digits_at k l ≡ t → (length l ≡ k → ⊥) → followed_to_end (pick t (reached (value 0 (take k l)) (drop k l)) lost) ≡ None
     long true e n = rw (drop_longer k l (omega (arith, leb-true k (length l) (and_both _ _ e).0)))
     long false e n = refl
 
-    all : (t : Bool) → followed_to_end (pick t (reached (value 0 l) []) lost) ≡ pick t (some (value 0 l)) none
+    all : (t : Bool) → followed_to_end (pick t (reached (value 0 l) []) lost) ≡ pick t (Some (value 0 l)) None
     all true = refl
     all false = refl
 
-    go : (t : Bool) → eqb (length l) k ≡ t → followed_to_end (pick (digits_at k l) (reached (value 0 (take k l)) (drop k l)) lost) ≡ pick (t and all_of is_digit l) (some (value 0 l)) none
+    go : (t : Bool) → eqb (length l) k ≡ t → followed_to_end (pick (digits_at k l) (reached (value 0 (take k l)) (drop k l)) lost) ≡ pick (t and all_of is_digit l) (Some (value 0 l)) None
     go true e =
         let m : length l ≡ k = eqb-true _ _ e in
         let b : length l ≤ k = omega arith in
@@ -146,11 +145,11 @@ shift_six neg l m k = six (λ (l : List ℕ). all_of is_digit l ≡ true → off
           ← ef,
         )
 
-no_shift_digits : (neg : Bool) (l : List ℕ) → all_of is_digit l ≡ false → shift_kept neg l ≡ none
+no_shift_digits : (neg : Bool) (l : List ℕ) → all_of is_digit l ≡ false → shift_kept neg l ≡ None
 unfolding shift_kept is_shift is_clock pick ◌and◌
 no_shift_digits neg l h = rw (h, and_no_right (eqb (length l) 4 or eqb (length l) 6) false refl)
 
-no_shift_length : (neg : Bool) (l : List ℕ) → eqb (length l) 4 ≡ false → eqb (length l) 6 ≡ false → shift_kept neg l ≡ none
+no_shift_length : (neg : Bool) (l : List ℕ) → eqb (length l) 4 ≡ false → eqb (length l) 6 ≡ false → shift_kept neg l ≡ None
 unfolding shift_kept is_shift pick ◌and◌ ◌or◌
 no_shift_length neg l h k = rw (h, k)
 
@@ -159,12 +158,12 @@ by_digits : (neg : Bool) (l : List ℕ) → shift_kept neg l ≡ offset_of neg (
 unfolding offset_of pick ◌and◌
 by_digits neg l = rw (whole_digits 4 l, whole_digits 6 l) (go (eqb (length l) 4) (eqb (length l) 6) (all_of is_digit l) refl refl refl)
   where
-    none_of : (u : Bool) → none ≡ offset_of neg none (pick (u and false) (some (value 0 l)) none)
+    none_of : (u : Bool) → None ≡ offset_of neg None (pick (u and false) (Some (value 0 l)) None)
     none_of true = refl
     none_of false = refl
 
     go : (t u d : Bool) → eqb (length l) 4 ≡ t → eqb (length l) 6 ≡ u → all_of is_digit l ≡ d →
-        shift_kept neg l ≡ offset_of neg (pick (t and d) (some (value 0 l)) none) (pick (u and d) (some (value 0 l)) none)
+        shift_kept neg l ≡ offset_of neg (pick (t and d) (Some (value 0 l)) None) (pick (u and d) (Some (value 0 l)) None)
     go true u true e f g = sym (shift_four neg l (eqb-true _ _ e) g)
     go true u false e f g = no_shift_digits neg l g ∙ none_of u
     go false true true e f g = sym (shift_six neg l (eqb-true _ _ f) g)
@@ -172,16 +171,16 @@ by_digits neg l = rw (whole_digits 4 l, whole_digits 6 l) (go (eqb (length l) 4)
     go false false d e f g = no_shift_length neg l e f
 
 -- by its sign and its digits
-signed : (b : ℕ) (l : List ℕ) → keep is_utc_offset (b ∷ l) ≡ pick (eqb b 43 or eqb b 45) (shift_kept (eqb b 45) l) none
+signed : (b : ℕ) (l : List ℕ) → keep is_utc_offset (b ∷ l) ≡ pick (eqb b 43 or eqb b 45) (shift_kept (eqb b 45) l) None
 unfolding keep is_utc_offset is_some_shift begins shift_kept pick ◌and◌ ◌or◌
 signed b l = go (eqb b 43) (eqb b 45) refl refl (is_shift l) (ltb 0 (value 0 l))
   where
     go : (t u : Bool) → eqb b 43 ≡ t → eqb b 45 ≡ u → (h z : Bool) →
-        pick ((t and h) or (u and (h and z))) (some (b ∷ l)) none ≡ pick (t or u) (pick (h and pick u z true) (some (pick u 45 43 ∷ l)) none) none
+        pick ((t and h) or (u and (h and z))) (Some (b ∷ l)) None ≡ pick (t or u) (pick (h and pick u z true) (Some (pick u 45 43 ∷ l)) None) None
     go true true e f h z = absurd (omega (arith, eqb-true b 43 e, eqb-true b 45 f))
-    go true false e f true z = ap (λ (x : ℕ). some (x ∷ l)) (eqb-true b 43 e)
+    go true false e f true z = ap (λ (x : ℕ). Some (x ∷ l)) (eqb-true b 43 e)
     go true false e f false z = refl
-    go false true e f true true = ap (λ (x : ℕ). some (x ∷ l)) (eqb-true b 45 f)
+    go false true e f true true = ap (λ (x : ℕ). Some (x ∷ l)) (eqb-true b 45 f)
     go false true e f true false = refl
     go false true e f false z = refl
     go false false e f h z = refl
@@ -190,15 +189,15 @@ minus_front : (b : ℕ) (l : List ℕ) → is_minus (b ∷ l) ≡ eqb b 45
 unfolding is_minus begins ◌and◌
 minus_front b l = and-true (eqb b 45)
 
-signed_along : (k : ℕ) (b : ℕ) (l : List ℕ) → followed_to_end (along (43 ∷ zeros k []) 0 (b ∷ l)) ≡ pick (eqb b 43 or eqb b 45) (followed_to_end (along (zeros k []) 0 l)) none
+signed_along : (k : ℕ) (b : ℕ) (l : List ℕ) → followed_to_end (along (43 ∷ zeros k []) 0 (b ∷ l)) ≡ pick (eqb b 43 or eqb b 45) (followed_to_end (along (zeros k []) 0 l)) None
 unfolding along passes tally followed_to_end pick
 signed_along k b l = go (eqb b 43 or eqb b 45)
   where
-    go : (t : Bool) → followed_to_end (pick t (along (zeros k []) 0 l) lost) ≡ pick t (followed_to_end (along (zeros k []) 0 l)) none
+    go : (t : Bool) → followed_to_end (pick t (along (zeros k []) 0 l) lost) ≡ pick t (followed_to_end (along (zeros k []) 0 l)) None
     go true = refl
     go false = refl
 
-empty : keep is_utc_offset [] ≡ none
+empty : keep is_utc_offset [] ≡ None
 unfolding keep is_utc_offset begins pick ◌or◌
 empty = refl
 
@@ -207,18 +206,18 @@ unfolding offset_of along followed_to_end pick
 offset_kept [] = empty
 offset_kept (b ∷ l) = signed b l ∙ rw (signed_along 4 b l, signed_along 6 b l, minus_front b l) (go (eqb b 43 or eqb b 45))
   where
-    go : (t : Bool) → pick t (shift_kept (eqb b 45) l) none ≡ offset_of (eqb b 45) (pick t (followed_to_end (along (zeros 4 []) 0 l)) none) (pick t (followed_to_end (along (zeros 6 []) 0 l)) none)
+    go : (t : Bool) → pick t (shift_kept (eqb b 45) l) None ≡ offset_of (eqb b 45) (pick t (followed_to_end (along (zeros 4 []) 0 l)) None) (pick t (followed_to_end (along (zeros 6 []) 0 l)) None)
     go true = by_digits (eqb b 45) l
     go false = refl
 
 -- ---- with marks: six characters or nine
 
-not_length : (k : ℕ) (v : List ℕ) → (length v ≡ suc k → ⊥) → followed_to_end (along (43 ∷ zeros k []) 0 v) ≡ none
+not_length : (k : ℕ) (v : List ℕ) → (length v ≡ suc k → ⊥) → followed_to_end (along (43 ∷ zeros k []) 0 v) ≡ None
 unfolding along followed_to_end pick ◌and◌
 not_length k [] h = refl
 not_length k (b ∷ l) h = signed_along k b l ∙ rw (whole_digits k l, ne_eqb (length l) k (λ e. h (ap suc e))) (go (eqb b 43 or eqb b 45))
   where
-    go : (t : Bool) → ◌≡◌ {A = Option ℕ} (pick t none none) none
+    go : (t : Bool) → ◌≡◌ {A = Option ℕ} (pick t None None) None
     go true = refl
     go false = refl
 
@@ -234,10 +233,10 @@ minus_second [] h = absurd (omega arith)
 minus_second (b ∷ l) h = minus_front b _ ∙ sym (minus_front b l)
 
 module _ (s : List ℕ) where
-  minute_length : (v : List ℕ) → without_marks minute_marks s ≡ some v → length s ≡ 1 + length v
+  minute_length : (v : List ℕ) → without_marks minute_marks s ≡ Some v → length s ≡ 1 + length v
   minute_length v e = ap length (marks_exact minute_marks s v e) ∙ marks_length minute_marks v
 
-  second_length : (v : List ℕ) → without_marks second_marks s ≡ some v → length s ≡ 2 + length v
+  second_length : (v : List ℕ) → without_marks second_marks s ≡ Some v → length s ≡ 2 + length v
   second_length v e = ap length (marks_exact second_marks s v e) ∙ marks_length second_marks v
 
   minutes : Option ℕ
@@ -246,40 +245,40 @@ module _ (s : List ℕ) where
   seconds : Option ℕ
   seconds = followed_to_end (followed_by (without_marks second_marks s) (along (43 ∷ zeros 6 []) 0))
 
-  no_minutes : (length s ≡ 6 → ⊥) → minutes ≡ none
+  no_minutes : (length s ≡ 6 → ⊥) → minutes ≡ None
   unfolding minutes followed_by followed_to_end
   no_minutes h = go (without_marks minute_marks s) refl
     where
-      go : (o : Option (List ℕ)) → without_marks minute_marks s ≡ o → followed_to_end (followed_by o (along (43 ∷ zeros 4 []) 0)) ≡ none
-      go none e = refl
-      go (some v) e = not_length 4 v (λ l. h (omega (arith, minute_length v e)))
+      go : (o : Option (List ℕ)) → without_marks minute_marks s ≡ o → followed_to_end (followed_by o (along (43 ∷ zeros 4 []) 0)) ≡ None
+      go None e = refl
+      go (Some v) e = not_length 4 v (λ l. h (omega (arith, minute_length v e)))
 
-  no_seconds : (length s ≡ 9 → ⊥) → seconds ≡ none
+  no_seconds : (length s ≡ 9 → ⊥) → seconds ≡ None
   unfolding seconds followed_by followed_to_end
   no_seconds h = go (without_marks second_marks s) refl
     where
-      go : (o : Option (List ℕ)) → without_marks second_marks s ≡ o → followed_to_end (followed_by o (along (43 ∷ zeros 6 []) 0)) ≡ none
-      go none e = refl
-      go (some v) e = not_length 6 v (λ l. h (omega (arith, second_length v e)))
+      go : (o : Option (List ℕ)) → without_marks second_marks s ≡ o → followed_to_end (followed_by o (along (43 ∷ zeros 6 []) 0)) ≡ None
+      go None e = refl
+      go (Some v) e = not_length 6 v (λ l. h (omega (arith, second_length v e)))
 
-  by_minutes : length s ≡ 6 → and_then (without_marks minute_marks s) (keep is_utc_offset) ≡ offset_of (is_minus s) minutes none
+  by_minutes : length s ≡ 6 → and_then (without_marks minute_marks s) (keep is_utc_offset) ≡ offset_of (is_minus s) minutes None
   unfolding minutes followed_by followed_to_end and_then offset_of
   by_minutes h = go (without_marks minute_marks s) refl
     where
-      go : (o : Option (List ℕ)) → without_marks minute_marks s ≡ o → and_then o (keep is_utc_offset) ≡ offset_of (is_minus s) (followed_to_end (followed_by o (along (43 ∷ zeros 4 []) 0))) none
-      go none e = refl
-      go (some v) e =
+      go : (o : Option (List ℕ)) → without_marks minute_marks s ≡ o → and_then o (keep is_utc_offset) ≡ offset_of (is_minus s) (followed_to_end (followed_by o (along (43 ∷ zeros 4 []) 0))) None
+      go None e = refl
+      go (Some v) e =
           let l = minute_length v e in
           let m : is_minus s ≡ is_minus v = ap is_minus (marks_exact minute_marks s v e) ∙ minus_minute v (omega arith) in
           offset_kept v ∙ rw (not_length 6 v (omega arith), m)
 
-  by_seconds : length s ≡ 9 → and_then (without_marks second_marks s) (keep is_utc_offset) ≡ offset_of (is_minus s) none seconds
+  by_seconds : length s ≡ 9 → and_then (without_marks second_marks s) (keep is_utc_offset) ≡ offset_of (is_minus s) None seconds
   unfolding seconds followed_by followed_to_end and_then offset_of
   by_seconds h = go (without_marks second_marks s) refl
     where
-      go : (o : Option (List ℕ)) → without_marks second_marks s ≡ o → and_then o (keep is_utc_offset) ≡ offset_of (is_minus s) none (followed_to_end (followed_by o (along (43 ∷ zeros 6 []) 0)))
-      go none e = refl
-      go (some v) e =
+      go : (o : Option (List ℕ)) → without_marks second_marks s ≡ o → and_then o (keep is_utc_offset) ≡ offset_of (is_minus s) None (followed_to_end (followed_by o (along (43 ∷ zeros 6 []) 0)))
+      go None e = refl
+      go (Some v) e =
           let l = second_length v e in
           let m : is_minus s ≡ is_minus v = ap is_minus (marks_exact second_marks s v e) ∙ minus_second v (omega arith) in
           offset_kept v ∙ rw (not_length 4 v (omega arith), m)
@@ -289,7 +288,7 @@ module _ (s : List ℕ) where
   with_marks_lem = go (eqb (length s) 6) (eqb (length s) 9) refl refl
     where
       go : (t u : Bool) → eqb (length s) 6 ≡ t → eqb (length s) 9 ≡ u →
-          pick t (and_then (without_marks minute_marks s) (keep is_utc_offset)) (pick u (and_then (without_marks second_marks s) (keep is_utc_offset)) none) ≡ offset_of (is_minus s) minutes seconds
+          pick t (and_then (without_marks minute_marks s) (keep is_utc_offset)) (pick u (and_then (without_marks second_marks s) (keep is_utc_offset)) None) ≡ offset_of (is_minus s) minutes seconds
       go true u e f = rw (no_seconds (λ q. omega (arith, eqb-true (length s) 6 e))) (by_minutes (eqb-true _ _ e))
       go false true e f = rw (no_minutes (eqb-false _ _ e)) (by_seconds (eqb-true _ _ f))
       go false false e f = rw (no_minutes (eqb-false _ _ e), no_seconds (eqb-false _ _ f))
@@ -303,21 +302,21 @@ offset_along true s =
 
 -- ---- the ways of a reader
 
-module _ {p : List ℕ} {m : ℕ} {s : List ℕ} {c : ℕ} {w : Walk} (f : Walks p true m s c w) where
+module _ {p : List ℕ} {m : ℕ} {s : List ℕ} {c : ℕ} {w : Option Walk} (f : Walks p true m s c w) where
   followed : followed_to_end (along p 0 (rest m s c)) ≡ followed_to_end (walked true m s w)
   unfolding cased
   followed = ap followed_to_end f.is
 
-  pub whole_end : w.ok ≡ true → is_empty (rest m s w.next) ≡ true → WalksToEnd p m s c w
-  unfolding walked followed_to_end walked_to_end cased pick
+  pub whole_end : {v : Walk} → w ≡ Some v → is_empty (rest m s v.next) ≡ true → WalksToEnd p m s c (Some v.number)
+  unfolding followed_to_end cased pick
   whole_end h k = record { is = followed ∙ rw (h, k) }
 
-  pub whole_more : {x y : ℕ} → w.ok ≡ true → is_empty (rest m s w.next) ≡ false → WalksToEnd p m s c (record { ok = false; n = x; next = y })
-  unfolding walked followed_to_end walked_to_end cased pick
+  pub whole_more : {v : Walk} → w ≡ Some v → is_empty (rest m s v.next) ≡ false → WalksToEnd p m s c None
+  unfolding followed_to_end cased pick
   whole_more h k = record { is = followed ∙ rw (h, k) }
 
-  pub whole_lost : {x y : ℕ} → w.ok ≡ false → WalksToEnd p m s c (record { ok = false; n = x; next = y })
-  unfolding walked followed_to_end walked_to_end pick
+  pub whole_lost : w ≡ None → WalksToEnd p m s c None
+  unfolding followed_to_end
   whole_lost h = record { is = followed ∙ rw h }
 
 pub ruleset wholly = (whole_end, whole_more, whole_lost, flag_yes, flag_no, rules)
@@ -336,29 +335,29 @@ minus_here {m} {s} {c} {a} p = rw p.is (go (eqb a.u 256) refl)
 
 -- the number n of six digits
 module _ (neg w : Bool) (n : ℕ) where
-  pub offset_found : is_hms (n / 10000 % 100) (n / 100 % 100) (n % 100) ≡ true → pick neg (ltb 0 n) true ≡ true →
-      offset_by neg w n ≡ some (shift_bytes neg (n / 10000 % 100) (n / 100 % 100) (n % 100) w)
+  pub offset_found : {o : Option ℕ} → o ≡ provided w (n % 100) → is_hms (n / 10000 % 100) (n / 100 % 100) (n % 100) ≡ true → pick neg (ltb 0 n) true ≡ true →
+      offset_by neg w n ≡ Some (shift_bytes neg (n / 10000 % 100) (n / 100 % 100) o)
   unfolding offset_by ◌and◌
-  offset_found h k = pick_yes _ _ _ (rw h k)
+  offset_found e h k = rw e (pick_yes _ _ _ (rw h k))
 
-  pub offset_zero : pick neg (ltb 0 n) true ≡ false → offset_by neg w n ≡ none
+  pub offset_zero : pick neg (ltb 0 n) true ≡ false → offset_by neg w n ≡ None
   unfolding offset_by
   offset_zero k = pick_no _ _ _ (and_no_right _ _ k)
 
-  pub offset_wide : is_hms (n / 10000 % 100) (n / 100 % 100) (n % 100) ≡ false → offset_by neg w n ≡ none
+  pub offset_wide : is_hms (n / 10000 % 100) (n / 100 % 100) (n % 100) ≡ false → offset_by neg w n ≡ None
   unfolding offset_by
   offset_wide h = pick_no _ _ _ (and_no_left _ _ h)
 
-module _ (x : Bool) {m : ℕ} {s : List ℕ} {c : ℕ} {w : Walk} {neg : Bool} (f : WalksToEnd (minute_pattern (format_of x)) m s c w) (g : neg ≡ is_minus (rest m s c)) where
-  pub offset_minutes : w.ok ≡ true → read_utc_offset (format_of x) (rest m s c) ≡ offset_by neg false (w.n % 10000 * 100)
-  unfolding walked_to_end offset_of pick
+module _ (x : Bool) {m : ℕ} {s : List ℕ} {c : ℕ} {w : Option ℕ} {neg : Bool} (f : WalksToEnd (minute_pattern (format_of x)) m s c w) (g : neg ≡ is_minus (rest m s c)) where
+  pub offset_minutes : {n : ℕ} → w ≡ Some n → read_utc_offset (format_of x) (rest m s c) ≡ offset_by neg false (n % 10000 * 100)
+  unfolding offset_of
   offset_minutes h = offset_along x (rest m s c) ∙ rw (f.is, h, ← g)
 
-  module _ {v : Walk} (k : WalksToEnd (second_pattern (format_of x)) m s c v) where
-    pub offset_seconds : w.ok ≡ false → v.ok ≡ true → read_utc_offset (format_of x) (rest m s c) ≡ offset_by neg true v.n
-    unfolding walked_to_end offset_of pick
+  module _ {v : Option ℕ} (k : WalksToEnd (second_pattern (format_of x)) m s c v) where
+    pub offset_seconds : {n : ℕ} → w ≡ None → v ≡ Some n → read_utc_offset (format_of x) (rest m s c) ≡ offset_by neg true n
+    unfolding offset_of
     offset_seconds h l = offset_along x (rest m s c) ∙ rw (f.is, k.is, h, l, ← g)
 
-    pub offset_lost : w.ok ≡ false → v.ok ≡ false → read_utc_offset (format_of x) (rest m s c) ≡ none
-    unfolding walked_to_end offset_of pick
+    pub offset_lost : w ≡ None → v ≡ None → read_utc_offset (format_of x) (rest m s c) ≡ None
+    unfolding offset_of
     offset_lost h l = offset_along x (rest m s c) ∙ rw (f.is, k.is, h, l)

@@ -2,9 +2,8 @@
 --     along-spell      one character of the pattern
 --     along_marks      a pattern with marks passes what the pattern without them passes when the marks are taken out
 --     along_digits     digits at the front
-use Rattle.std.specs.Prelude.{◌≡◌, refl, Bool, true, false, List, [], ◌∷◌, ℕ, zero, suc, ◌+◌, ◌*◌, ◌≤◌, ◌<◌, eqb, leb, length, take, drop}
+use Rattle.std.specs.Prelude.{◌≡◌, refl, Bool, true, false, List, [], ◌∷◌, ℕ, zero, suc, ◌+◌, ◌*◌, ◌≤◌, ◌<◌, eqb, leb, length, take, drop, Option, None, Some}
 use Rattle.std.proofs.Common.{◌∙◌, arith, eqb-true, ne_eqb, leb-true, leb-false, le-leb}
-use Rattle.std.proofs.Math.Option.{Option, none, some}
 use Rattle.std.proofs.lemmas.Bool.{lt-leb}
 use Rattle.octets.specs.Pick.{pick, ◌and◌, ◌or◌}
 use Rattle.octets.specs.laws.Pick.{and_no_right, and_both}
@@ -69,7 +68,7 @@ unfolding along put_mark take_mark followed_by cons_read pick
 along_mark zero c q n [] m h = refl
 along_mark zero c q n (b ∷ s) m h = mark_passes c b n q s m ∙ go (eqb b c)
   where
-    go : (t : Bool) → pick t (along q n s) lost ≡ followed_by (pick t (some s) none) (along q n)
+    go : (t : Bool) → pick t (along q n s) lost ≡ followed_by (pick t (Some s) None) (along q n)
     go true = refl
     go false = refl
 along_mark (suc k) c [] n s m h = absurd (omega arith)
@@ -77,8 +76,8 @@ along_mark (suc k) c (x ∷ q) n [] m h = refl
 along_mark (suc k) c (x ∷ q) n (b ∷ s) m h = rw (along_mark k c q (tally x n b) s m (omega arith)) (go (take_mark k c s))
   where
     go : (o : Option (List ℕ)) → pick (passes x b) (followed_by o (along q (tally x n b))) lost ≡ followed_by (cons_read b o) (along (x ∷ q) n)
-    go none = pick_same (passes x b) lost
-    go (some l) = refl
+    go None = pick_same (passes x b) lost
+    go (Some l) = refl
 
 pub along_marks : (ms : List Mark) (q : List ℕ) (n : ℕ) (s : List ℕ) → are_marks ms ≡ true → fits ms (length q) ≡ true →
     along (with_marks ms q) n s ≡ followed_by (without_marks ms s) (along q n)
@@ -89,8 +88,8 @@ along_marks (k ∷ ms) q n s m h =
     ∙ go (without_marks ms s)
   where
     go : (o : Option (List ℕ)) → followed_by o (along (put_mark k.place k.sign q) n) ≡ followed_by (and_then o (take_mark k.place k.sign)) (along q n)
-    go none = refl
-    go (some l) = along_mark k.place k.sign q n l (and_both _ _ m).0 (leb-true _ _ (and_both _ _ h).0)
+    go None = refl
+    go (Some l) = along_mark k.place k.sign q n l (and_both _ _ m).0 (leb-true _ _ (and_both _ _ h).0)
 
 -- ---- digits at the front
 

@@ -1,10 +1,9 @@
 -- Laws of what specs/Period.antt defines.
 --     period_explicit_read_back, period_start_read_back, period_accepted
 --     period_explicit_visible, period_start_visible, period_explicit_no_comma, period_start_no_comma
-use Rattle.std.specs.Prelude.{◌≡◌, refl, Bool, true, false, List, [], ◌∷◌, ◌++◌, ℕ, eqb, length, take, drop}
+use Rattle.std.specs.Prelude.{◌≡◌, refl, Bool, true, false, List, [], ◌∷◌, ◌++◌, ℕ, eqb, length, take, drop, Some}
 use Rattle.std.proofs.Common.{sym, ap, ◌∙◌, eqb-true, ne_eqb}
 use Rattle.std.proofs.lemmas.Bool.{false≢true}
-use Rattle.std.proofs.Math.Option.{some}
 use Rattle.std.proofs.Math.Seq.{take-append_seam, drop-append_seam}
 use Rattle.octets.specs.Pick.{pick, ◌and◌, ◌or◌}
 use Rattle.octets.specs.laws.Pick.{or_left, and_both, or_cases}
@@ -37,11 +36,11 @@ slash_found : (a b : List ℕ) → all_of is_time_char a ≡ true → slash_at (
 unfolding is_no_slash pick
 slash_found a b h = span_front is_no_slash a (47 ∷ b) (all_weaker is_time_char is_no_slash char_no_slash a h) (stops_at is_no_slash 47 b refl)
 
-date_time_read : (v : List ℕ) → is_date_time v ≡ true → read_date_time ical v ≡ some v
+date_time_read : (v : List ℕ) → is_date_time v ≡ true → read_date_time ical v ≡ Some v
 unfolding write_date_time
 date_time_read v h = date_time_read_back ical v h
 
-duration_read : (v : List ℕ) → is_duration v ≡ true → read_duration ical v ≡ some v
+duration_read : (v : List ℕ) → is_duration v ≡ true → read_duration ical v ≡ Some v
 unfolding write_duration
 duration_read v h = duration_read_back ical v h
 
@@ -69,32 +68,32 @@ not_both v h = go v (is_date_time v) refl h
     go [] true e k = sym k
     go (b ∷ s) true e k = absurd (false≢true (sym (duration_first b s k) ∙ date_time_first b s e))
 
-pub period_explicit_read_back : (start end : List ℕ) → is_date_time start ≡ true → is_date_time end ≡ true → read_period (write_period start end) ≡ some (period_explicit start end)
+pub period_explicit_read_back : (start end : List ℕ) → is_date_time start ≡ true → is_date_time end ≡ true → read_period (write_period start end) ≡ Some (period_explicit start end)
 unfolding period_from pick
 period_explicit_read_back start end h k = cut_at_slash start end h ∙ rw (chars_upper end (date_time_chars end k), k)
 
-pub period_start_read_back : (start d : List ℕ) → is_date_time start ≡ true → is_duration d ≡ true → read_period (write_period start d) ≡ some (period_start start d)
+pub period_start_read_back : (start d : List ℕ) → is_date_time start ≡ true → is_duration d ≡ true → read_period (write_period start d) ≡ Some (period_start start d)
 unfolding period_from pick and_then
 period_start_read_back start d h k = cut_at_slash start d h ∙ rw (chars_upper d (duration_chars d k), not_both d k, duration_read d k)
 
 -- ---- what is read is a date-time and a date-time, or a date-time and a duration: what holds of those holds of it
 pub period_accepted : (P : Value → Type 0) → ((start end : List ℕ) → is_date_time start ≡ true → is_date_time end ≡ true → P (period_explicit start end)) →
     ((start d : List ℕ) → is_date_time start ≡ true → is_duration d ≡ true → P (period_start start d)) →
-    (s : List ℕ) (v : Value) → read_period s ≡ some v → P v
+    (s : List ℕ) (v : Value) → read_period s ≡ Some v → P v
 unfolding read_period period_from pick
 period_accepted P explicit started s v h =
     let q = and_then-some (read_date_time ical (take (slash_at s) s)) (λ start. period_from start (drop 1 (drop (slash_at s) s))) v h in
     go q.0 (drop 1 (drop (slash_at s) s)) (date_time_accepted ical _ q.0 q.1) q.2
   where
     both : (start r : List ℕ) (t : Bool) → is_date_time (upper r) ≡ t → is_date_time start ≡ true →
-        pick t (some (period_explicit start (upper r))) (and_then (read_duration ical r) (λ d. some (period_start start d))) ≡ some v → P v
+        pick t (Some (period_explicit start (upper r))) (and_then (read_duration ical r) (λ d. Some (period_start start d))) ≡ Some v → P v
     both start r true e h k = let q : period_explicit start (upper r) ≡ v = cc in rw (← q) (explicit start (upper r) h e)
     both start r false e h k =
-        let p = and_then-some (read_duration ical r) (λ d. some (period_start start d)) v k in
+        let p = and_then-some (read_duration ical r) (λ d. Some (period_start start d)) v k in
         let q : period_start start p.0 ≡ v = cc p.2 in
         rw (← q) (started start p.0 h (duration_accepted ical r p.0 p.1))
 
-    go : (start r : List ℕ) → is_date_time start ≡ true → period_from start r ≡ some v → P v
+    go : (start r : List ℕ) → is_date_time start ≡ true → period_from start r ≡ Some v → P v
     go start r h k = both start r (is_date_time (upper r)) refl h k
 
 -- ---- its characters

@@ -1,26 +1,25 @@
 -- Laws of what specs/PeriodAlong.antt defines.
 --     period_along      a period is what follows the pattern so
-use Rattle.std.specs.Prelude.{◌≡◌, refl, Bool, true, false, List, [], ◌∷◌, ◌++◌, ℕ, suc, ◌-◌, ◌/◌, ◌%◌, eqb, take, drop}
+use Rattle.std.specs.Prelude.{◌≡◌, refl, Bool, true, false, List, [], ◌∷◌, ◌++◌, ℕ, suc, ◌-◌, eqb, take, drop, Option, None, Some}
 use Rattle.std.proofs.Common.{sym, ap, ◌∙◌, append-nil, arith, take-append-drop, eqb-true, ne_eqb, leb-true}
 use Rattle.std.proofs.lemmas.Bool.{false≢true}
-use Rattle.std.proofs.Math.Option.{none}
 use Rattle.octets.specs.Pick.{pick, ◌and◌, ◌or◌}
 use Rattle.octets.specs.laws.Pick.{and_both}
 use Rattle.octets.specs.Scan.{all_of, span_len}
 use Rattle.octets.specs.laws.Scan.{all_split, all_cons}
 use Rattle.octets.specs.Class.{is_small, upper_byte, upper}
 use Rattle.octets.specs.Words.{same}
-use Rattle.octets.specs.Reading.{and_then}
+use Rattle.octets.specs.Reading.{and_then, provided}
 use Rattle.calendar.specs.Calendar.{ical}
 use Rattle.times.specs.Spelling.{keep, begins}
 use Rattle.times.specs.Pattern.{Followed, reached, lost, passes, tally, along}
 use Rattle.times.specs.Letters.{cased}
 use Rattle.times.specs.TimeAlong.{zone}
-use Rattle.times.specs.laws.TimeAlong.{clock_longer}
-use Rattle.times.specs.DateAlong.{day_from}
+use Rattle.times.specs.declared.time.Zone.{Zone}
+use Rattle.times.specs.declared.time.Zone.TheVariants.{Utc}
 use Rattle.times.specs.Date.{is_date}
 use Rattle.times.specs.DateTime.{is_date_time, read_date_time}
-use Rattle.times.specs.DateTimeAlong.{date_time_pattern, moment, moment_from, moment_by, join_time}
+use Rattle.times.specs.DateTimeAlong.{date_time_pattern, moment, moment_from, moment_by}
 use Rattle.times.specs.laws.DateTimeAlong.{date_time_along, moment_zone, then_none}
 use Rattle.times.specs.Duration.{unsigned_duration, is_duration, duration_of, read_duration}
 use Rattle.times.specs.Period.{is_no_slash, slash_at, period_from, read_period}
@@ -128,25 +127,21 @@ no_slash_here b h = go (eqb b 47) h
     go true q = absurd (false≢true q)
     go false q = refl
 
-other_zone : (n : ℕ) (l : List ℕ) → none ≡ period_by n 2 l
-unfolding period_by moment_by and_then join_time
-other_zone n l = rw (clock_longer (n % 1000000) 2 refl, then_none (day_from (n / 1000000)))
-
 -- a slash after what has none
-start_cut : (n : ℕ) (r x : List ℕ) → all_of is_no_slash r ≡ true → cut_period n (after_start (r ++ (47 ∷ x))) ≡ period_by n (zone r) x
-unfolding after_start slashed cut_period zone same pick ◌and◌
+start_cut : (n : ℕ) (r x : List ℕ) → all_of is_no_slash r ≡ true → cut_period n (after_start (r ++ (47 ∷ x))) ≡ and_then (zone r) (λ z. period_by n z x)
+unfolding after_start slashed cut_period zone same and_then pick ◌and◌
 start_cut n [] x h = refl
 start_cut n (b ∷ []) x h = rw (no_slash_here b (all_split is_no_slash b [] h).0) (go (eqb b 90))
   where
-    go : (t : Bool) → cut_period n (pick t (cut 1 x) uncut) ≡ period_by n (pick (t and true) 1 2) x
+    go : (t : Bool) → cut_period n (pick t (cut Utc x) uncut) ≡ and_then (provided (t and true) Utc) (λ z. period_by n z x)
     go true = refl
-    go false = other_zone n x
+    go false = refl
 start_cut n (b ∷ c ∷ r) x h =
     rw (no_slash_here b (all_split is_no_slash b (c ∷ r) h).0, no_slash_here c (all_split is_no_slash c r (all_split is_no_slash b (c ∷ r) h).1).0) (go (eqb b 90))
   where
-    go : (t : Bool) → cut_period n (pick t uncut uncut) ≡ period_by n (pick (t and false) 1 2) x
-    go true = other_zone n x
-    go false = other_zone n x
+    go : (t : Bool) → cut_period n (pick t uncut uncut) ≡ and_then (provided (t and false) Utc) (λ z. period_by n z x)
+    go true = refl
+    go false = refl
 
 -- no slash at all
 start_uncut : (r : List ℕ) → all_of is_no_slash r ≡ true → after_start r ≡ uncut
@@ -164,15 +159,16 @@ start_uncut (b ∷ c ∷ r) h =
     go true = refl
     go false = refl
 
-no_end : (start : List ℕ) → period_upper start [] ≡ none
+no_end : (start : List ℕ) → period_upper start [] ≡ None
 unfolding period_upper duration_of is_date_time is_date is_duration unsigned_duration keep begins and_then pick ◌or◌ ◌and◌
 no_end start = refl
 
-nothing_after : (n k : ℕ) → period_by n k [] ≡ none
-unfolding period_by
-nothing_after n k = simp no_end (then_none (moment_by n k))
+nothing_after : (n : ℕ) (o : Option Zone) → and_then o (λ z. period_by n z []) ≡ None
+unfolding period_by and_then
+nothing_after n None = refl
+nothing_after n (Some z) = simp no_end (then_none (moment_by n z))
 
-both_sides : (n : ℕ) (r d : List ℕ) → all_of is_no_slash r ≡ true → is_cut d ≡ true → period_by n (zone r) (drop 1 d) ≡ cut_period n (after_start (r ++ d))
+both_sides : (n : ℕ) (r d : List ℕ) → all_of is_no_slash r ≡ true → is_cut d ≡ true → and_then (zone r) (λ z. period_by n z (drop 1 d)) ≡ cut_period n (after_start (r ++ d))
 unfolding is_cut cut_period
 both_sides n r [] h k = nothing_after n (zone r) ∙ rw (append-nil, start_uncut r h)
 both_sides n r (b ∷ x) h k = rw (eqb-true b 47 k) (sym (start_cut n r x h))
@@ -182,9 +178,13 @@ unfolding upper
 upper_rest [] = refl
 upper_rest (b ∷ d) = refl
 
-after_slash : (n : ℕ) (r d : List ℕ) → and_then (moment_from n r) (λ start. period_from start (drop 1 d)) ≡ period_by n (zone r) (drop 1 (upper d))
-unfolding period_from period_upper read_duration period_by
-after_slash n r d = rw (moment_zone n r, ← (upper_rest d))
+after_slash : (n : ℕ) (r d : List ℕ) → and_then (moment_from n r) (λ start. period_from start (drop 1 d)) ≡ and_then (zone r) (λ z. period_by n z (drop 1 (upper d)))
+unfolding period_from period_upper read_duration period_by and_then
+after_slash n r d = rw (moment_zone n r) (go (zone r))
+  where
+    go : (o : Option Zone) → and_then (and_then o (moment_by n)) (λ start. period_from start (drop 1 d)) ≡ and_then o (λ z. period_by n z (drop 1 (upper d)))
+    go None = refl
+    go (Some z) = rw (← (upper_rest d))
 
 period_parts : (f : Followed) (d : List ℕ) → left_clean f ≡ true → is_cut (upper d) ≡ true → and_then (moment f) (λ start. period_from start (drop 1 d)) ≡ period_after (extend f (upper d))
 unfolding moment left_clean extend period_after and_then

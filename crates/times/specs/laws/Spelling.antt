@@ -2,10 +2,9 @@
 --     Chars    a test that passes no other
 --     chars_visible, chars_upper, chars_without    what follows for a spelling of such characters
 --     marked_read_back, marked_accepted, marked_exact    what is read with marks, for any test
-use Rattle.std.specs.Prelude.{◌≡◌, refl, Bool, true, false, List, [], ◌∷◌, ℕ, zero, suc, ◌+◌, ◌≤◌, eqb, length}
+use Rattle.std.specs.Prelude.{◌≡◌, refl, Bool, true, false, List, [], ◌∷◌, ℕ, zero, suc, ◌+◌, ◌≤◌, eqb, length, Option, None, Some}
 use Rattle.std.proofs.Common.{ap, ◌∙◌, arith, eq-eqb, eqb-true, leb-true, le-leb}
 use Rattle.std.proofs.lemmas.Bool.{false≢true, lt-leb}
-use Rattle.std.proofs.Math.Option.{Option, none, some}
 use Rattle.octets.specs.Pick.{pick, ◌and◌, ◌or◌}
 use Rattle.octets.specs.laws.Pick.{and_yes, and_both, or_cases}
 use Rattle.octets.specs.Scan.{all_of}
@@ -84,15 +83,15 @@ chars_no_slash s h = chars_without 47 refl s h
 
 -- ---- what is kept
 
-pub keep_yes : (test : List ℕ → Bool) (v : List ℕ) → test v ≡ true → keep test v ≡ some v
+pub keep_yes : (test : List ℕ → Bool) (v : List ℕ) → test v ≡ true → keep test v ≡ Some v
 unfolding keep pick
 keep_yes test v h = rw h
 
-pub keep_is : (test : List ℕ → Bool) (s v : List ℕ) → keep test s ≡ some v → s ≡ v
+pub keep_is : (test : List ℕ → Bool) (s v : List ℕ) → keep test s ≡ Some v → s ≡ v
 unfolding keep
 keep_is test s v h = (provided-some (test s) s v h).1
 
-pub keep_accepted : (test : List ℕ → Bool) (s v : List ℕ) → keep test s ≡ some v → test v ≡ true
+pub keep_accepted : (test : List ℕ → Bool) (s v : List ℕ) → keep test s ≡ Some v → test v ≡ true
 unfolding keep
 keep_accepted test s v h = let p = provided-some (test s) s v h in rw (← p.1) p.0
 
@@ -101,11 +100,11 @@ pub keep_read : (test : List ℕ → Bool) (s : List ℕ) → is_read (keep test
 unfolding keep is_read pick
 keep_read test s = go (test s)
   where
-    go : (t : Bool) → is_read (pick t (some s) none) ≡ t
+    go : (t : Bool) → is_read (pick t (Some s) None) ≡ t
     go true = refl
     go false = refl
 
-pub marked_accepted : (test : List ℕ → Bool) (o : Option (List ℕ)) (v : List ℕ) → and_then o (keep test) ≡ some v → test v ≡ true
+pub marked_accepted : (test : List ℕ → Bool) (o : Option (List ℕ)) (v : List ℕ) → and_then o (keep test) ≡ Some v → test v ≡ true
 marked_accepted test o v h = let q = and_then-some o (keep test) v h in keep_accepted test q.0 v q.2
 
 -- ---- marks that are put in are taken out, and only those
@@ -122,13 +121,13 @@ unfolding with_marks
 marks_length [] s = omega arith
 marks_length (m ∷ ms) s = marks_length ms (put_mark m.place m.sign s) ∙ rw put_length (omega arith)
 
-take_put : (n c : ℕ) (s : List ℕ) → n ≤ length s → take_mark n c (put_mark n c s) ≡ some s
+take_put : (n c : ℕ) (s : List ℕ) → n ≤ length s → take_mark n c (put_mark n c s) ≡ Some s
 unfolding take_mark put_mark cons_read pick
 take_put zero c s h = rw (eq-eqb c c refl)
 take_put (suc n) c [] h = absurd (omega arith)
 take_put (suc n) c (b ∷ s) h = rw (take_put n c s (omega arith))
 
-take_exact : (n c : ℕ) (s v : List ℕ) → take_mark n c s ≡ some v → s ≡ put_mark n c v
+take_exact : (n c : ℕ) (s v : List ℕ) → take_mark n c s ≡ Some v → s ≡ put_mark n c v
 unfolding take_mark put_mark
 take_exact zero c [] v h = none-some h
 take_exact zero c (b ∷ s) v h =
@@ -139,14 +138,14 @@ take_exact (suc n) c [] v h = none-some h
 take_exact (suc n) c (b ∷ s) v h =
     let q = cons_read-some b (take_mark n c s) v h in rw (← q.2) (ap (λ (r : List ℕ). b ∷ r) (take_exact n c s q.0 q.1))
 
-pub marks_taken_out : (ms : List Mark) (s : List ℕ) → fits ms (length s) ≡ true → without_marks ms (with_marks ms s) ≡ some s
+pub marks_taken_out : (ms : List Mark) (s : List ℕ) → fits ms (length s) ≡ true → without_marks ms (with_marks ms s) ≡ Some s
 unfolding with_marks without_marks fits and_then
 marks_taken_out [] s h = refl
 marks_taken_out (m ∷ ms) s h =
     rw (marks_taken_out ms (put_mark m.place m.sign s) (rw put_length (and_both _ _ h).1))
     (take_put m.place m.sign s (leb-true _ _ (and_both _ _ h).0))
 
-pub marks_exact : (ms : List Mark) (s v : List ℕ) → without_marks ms s ≡ some v → s ≡ with_marks ms v
+pub marks_exact : (ms : List Mark) (s v : List ℕ) → without_marks ms s ≡ Some v → s ≡ with_marks ms v
 unfolding with_marks without_marks
 marks_exact [] s v h = cc
 marks_exact (m ∷ ms) s v h =
@@ -161,11 +160,11 @@ fits_longer (m ∷ ms) n k h l =
     and_yes _ _ (le-leb m.place k (omega (arith, leb-true m.place n (and_both _ _ h).0))) (fits_longer ms (suc n) (suc k) (and_both _ _ h).1 (omega arith))
 
 -- reading without marks what was written with them, and only that
-pub marked_read_back : (test : List ℕ → Bool) (ms : List Mark) (v : List ℕ) → test v ≡ true → fits ms (length v) ≡ true → and_then (without_marks ms (with_marks ms v)) (keep test) ≡ some v
+pub marked_read_back : (test : List ℕ → Bool) (ms : List Mark) (v : List ℕ) → test v ≡ true → fits ms (length v) ≡ true → and_then (without_marks ms (with_marks ms v)) (keep test) ≡ Some v
 unfolding and_then
 marked_read_back test ms v h k = rw (marks_taken_out ms v k) (keep_yes test v h)
 
-pub marked_exact : (test : List ℕ → Bool) (ms : List Mark) (s v : List ℕ) → and_then (without_marks ms s) (keep test) ≡ some v → s ≡ with_marks ms v
+pub marked_exact : (test : List ℕ → Bool) (ms : List Mark) (s v : List ℕ) → and_then (without_marks ms s) (keep test) ≡ Some v → s ≡ with_marks ms v
 marked_exact test ms s v h =
     let q = and_then-some (without_marks ms s) (keep test) v h in
     marks_exact ms s q.0 q.1 ∙ ap (with_marks ms) (keep_is test q.0 v q.2)

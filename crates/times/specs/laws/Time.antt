@@ -1,7 +1,6 @@
 -- Laws of what specs/Time.antt defines.
 --     time_read_back, time_accepted, time_visible; time_exact    XML has one spelling of a time
-use Rattle.std.specs.Prelude.{◌≡◌, refl, true, List, ℕ, ◌≤◌, length, take, drop}
-use Rattle.std.proofs.Math.Option.{some}
+use Rattle.std.specs.Prelude.{◌≡◌, refl, true, List, ℕ, ◌≤◌, length, take, drop, Some}
 use Rattle.std.proofs.Common.{leb-true}
 use Rattle.octets.specs.Ascii.{ascii}
 use Rattle.octets.specs.Pick.{pick, ◌and◌, ◌or◌}
@@ -40,17 +39,17 @@ time_marks_fit : (v : List ℕ) → is_time v ≡ true → fits time_marks (leng
 unfolding fits ◌and◌
 time_marks_fit v h = fits_longer time_marks 6 (length v) refl (time_length v h)
 
-pub time_read_back : (f : Format) (v : List ℕ) → is_time v ≡ true → read_time f (write_time f v) ≡ some v
+pub time_read_back : (f : Format) (v : List ℕ) → is_time v ≡ true → read_time f (write_time f v) ≡ Some v
 unfolding read_time write_time
 time_read_back ical v h = rw (chars_upper v (time_chars v h)) (keep_yes is_time v h)
 time_read_back xcal v h = marked_read_back is_time time_marks v h (time_marks_fit v h)
 
-pub time_accepted : (f : Format) (s v : List ℕ) → read_time f s ≡ some v → is_time v ≡ true
+pub time_accepted : (f : Format) (s v : List ℕ) → read_time f s ≡ Some v → is_time v ≡ true
 unfolding read_time
 time_accepted ical s v h = keep_accepted is_time (upper s) v h
 time_accepted xcal s v h = marked_accepted is_time (without_marks time_marks s) v h
 
-pub time_exact : (s v : List ℕ) → read_time xcal s ≡ some v → s ≡ write_time xcal v
+pub time_exact : (s v : List ℕ) → read_time xcal s ≡ Some v → s ≡ write_time xcal v
 unfolding read_time write_time
 time_exact s v h = marked_exact is_time time_marks s v h
 

@@ -1,10 +1,9 @@
 -- Laws of what specs/TimeAlong.antt defines.
 --     time_along     a time is what follows the pattern and is in range
-use Rattle.std.specs.Prelude.{◌≡◌, refl, Bool, true, false, List, [], ◌∷◌, ℕ, ◌+◌, ◌*◌, ◌/◌, ◌%◌, ◌≤◌, ◌<◌, eqb, leb, length, take, drop}
+use Rattle.std.specs.Prelude.{◌≡◌, refl, Bool, true, false, List, [], ◌∷◌, ℕ, ◌+◌, ◌*◌, ◌/◌, ◌%◌, ◌≤◌, ◌<◌, eqb, leb, length, take, drop, Option, None, Some}
 use Rattle.std.proofs.Math.Path.{sym}
 use Rattle.std.proofs.Common.{ap, ◌∙◌, leb-true, le-leb, eq-eqb, ne_eqb, rules}
 use Rattle.std.proofs.lemmas.Bool.{false≢true}
-use Rattle.std.proofs.Math.Option.{Option, none, some}
 use native.Mathlib.Omega.{arith}
 use Rattle.octets.specs.Pick.{pick, ◌and◌, ◌or◌}
 use Rattle.octets.specs.laws.Pick.{and_no_right, flag_yes, flag_no, and_both, and-true}
@@ -28,9 +27,11 @@ use Rattle.times.specs.Letters.{cased, Spells}
 use Rattle.times.specs.laws.Letters.{cased_empty}
 use Rattle.times.specs.Followed.{walked, Walks}
 use Rattle.times.specs.laws.Digits.{digit_is, digit_small, two_of}
-use Rattle.times.specs.TimeAlong.{time_pattern, is_hms, is_zone, hms, clock_from, timed, zone, time_of, clock_by}
+use Rattle.times.specs.TimeAlong.{time_pattern, is_hms, is_zone, hms, clock_from, timed, zone, is_utc, time_of, clock_by}
 use Rattle.source.specs.declared.Step.{Step}
 use Rattle.times.specs.declared.follow.Walk.{Walk}
+use Rattle.times.specs.declared.time.Zone.{Zone}
+use Rattle.times.specs.declared.time.Zone.TheVariants.{Local, Utc}
 
 -- ---- six digits
 
@@ -105,7 +106,7 @@ pub six_enough : (v : List ℕ) → digits_at 6 v ≡ true → keep is_time v �
 unfolding digits_at
 six_enough v e = six_clock v (leb-true _ _ (and_both _ _ e).0) (and_both _ _ e).1
 
-pub six_short : (v : List ℕ) → digits_at 6 v ≡ false → keep is_time v ≡ none
+pub six_short : (v : List ℕ) → digits_at 6 v ≡ false → keep is_time v ≡ None
 unfolding keep pick
 six_short v e = rw (no_clock v e)
 
@@ -130,8 +131,8 @@ time_kept v = rw (along_digits 6 [] 0 v) (go (digits_at 6 v) refl)
 
 marked : (o : Option (List ℕ)) → and_then o (keep is_time) ≡ timed (followed_by o (along (zeros 6 []) 0))
 unfolding and_then followed_by timed
-marked none = refl
-marked (some v) = time_kept v
+marked None = refl
+marked (Some v) = time_kept v
 
 -- in text letters count as capitals
 pub time_along : (x : Bool) (s : List ℕ) → read_time (format_of x) s ≡ timed (along (time_pattern (format_of x)) 0 (cased x s))
@@ -141,24 +142,24 @@ time_along true s = marked (without_marks time_marks s) ∙ ap timed (sym (along
 
 -- ---- what follows the digits, by its kind
 
-clock_end : (n : ℕ) → clock_from n [] ≡ clock_by n 0
+clock_end : (n : ℕ) → clock_from n [] ≡ clock_by n Local
 unfolding clock_from clock_by time_of is_zone pick ◌or◌
 clock_end n = rw (and-true (is_hms (n / 10000 % 100) (n / 100 % 100) (n % 100)))
 
-clock_z : (n : ℕ) → clock_from n (ascii "Z") ≡ clock_by n 1
+clock_z : (n : ℕ) → clock_from n (ascii "Z") ≡ clock_by n Utc
 unfolding clock_from clock_by time_of is_zone same pick ◌or◌ ◌and◌
 clock_z n = rw (and-true (is_hms (n / 10000 % 100) (n / 100 % 100) (n % 100)))
 
-clock_other : (n : ℕ) (r : List ℕ) → is_zone r ≡ false → clock_from n r ≡ clock_by n 2
-unfolding clock_from clock_by pick
+clock_other : (n : ℕ) (r : List ℕ) → is_zone r ≡ false → clock_from n r ≡ None
+unfolding clock_from pick
 clock_other n r e = rw (e, and_no_right (is_hms (n / 10000 % 100) (n / 100 % 100) (n % 100)) false refl)
 
-pub clock_zone : (n : ℕ) (r : List ℕ) → clock_from n r ≡ clock_by n (zone r)
-unfolding zone is_zone pick ◌or◌
+pub clock_zone : (n : ℕ) (r : List ℕ) → clock_from n r ≡ and_then (zone r) (clock_by n)
+unfolding zone is_zone and_then pick ◌or◌
 clock_zone n [] = clock_end n
 clock_zone n (b ∷ l) = go (same (b ∷ l) (ascii "Z")) refl
   where
-    go : (t : Bool) → same (b ∷ l) (ascii "Z") ≡ t → clock_from n (b ∷ l) ≡ clock_by n (pick t 1 2)
+    go : (t : Bool) → same (b ∷ l) (ascii "Z") ≡ t → clock_from n (b ∷ l) ≡ and_then (provided t Utc) (clock_by n)
     go true e = rw (same_true (b ∷ l) (ascii "Z") e) (clock_z n)
     go false e = clock_other n (b ∷ l) e
 
@@ -172,23 +173,23 @@ unfolding same
 same_z u l = ap (λ (t : Bool). eqb u 90 and t) (same_end l)
 
 module _ {e : Bool} {m : ℕ} {s : List ℕ} {c : ℕ} {a : Step} (p : Spells e m s c a) where
-  pub zone_none : a.u ≡ 256 → 0 ≡ zone (cased e (rest m s c))
+  pub zone_none : a.u ≡ 256 → Some Local ≡ zone (cased e (rest m s c))
   unfolding zone pick
   zone_none h = rw (p.is, spell_end a.u (cased e (rest m s a.next)) h)
 
-  zone_byte : (a.u ≡ 256 → ⊥) → zone (cased e (rest m s c)) ≡ pick (eqb a.u 90 and is_empty (rest m s a.next)) 1 2
+  zone_byte : (a.u ≡ 256 → ⊥) → zone (cased e (rest m s c)) ≡ provided (eqb a.u 90 and is_empty (rest m s a.next)) Utc
   unfolding zone pick
   zone_byte h = rw (p.is, spell_byte a.u (cased e (rest m s a.next)) h, same_z, cased_empty)
 
-  pub zone_z : a.u ≡ 90 → is_empty (rest m s a.next) ≡ true → 1 ≡ zone (cased e (rest m s c))
+  pub zone_z : a.u ≡ 90 → is_empty (rest m s a.next) ≡ true → Some Utc ≡ zone (cased e (rest m s c))
   unfolding pick ◌and◌
   zone_z h k = sym (zone_byte (omega arith) ∙ rw (h, k))
 
-  pub zone_more : a.u ≡ 90 → is_empty (rest m s a.next) ≡ false → 2 ≡ zone (cased e (rest m s c))
+  pub zone_more : a.u ≡ 90 → is_empty (rest m s a.next) ≡ false → None ≡ zone (cased e (rest m s c))
   unfolding pick ◌and◌
   zone_more h k = sym (zone_byte (omega arith) ∙ rw (h, k))
 
-  pub zone_other : (a.u ≡ 256 → ⊥) → (a.u ≡ 90 → ⊥) → 2 ≡ zone (cased e (rest m s c))
+  pub zone_other : (a.u ≡ 256 → ⊥) → (a.u ≡ 90 → ⊥) → None ≡ zone (cased e (rest m s c))
   unfolding pick ◌and◌
   zone_other h k = sym (zone_byte h ∙ rw (ne_eqb a.u 90 k))
 
@@ -196,27 +197,24 @@ pub ruleset zoning = (zone_none, zone_z, zone_more, zone_other, flag_yes, flag_n
 
 -- ---- the ways of a reader
 
-pub clock_found : (n k : ℕ) → (k ≡ 2 → ⊥) → is_hms (n / 10000 % 100) (n / 100 % 100) (n % 100) ≡ true →
-    clock_by n k ≡ some (time_of (n / 10000 % 100) (n / 100 % 100) (n % 100) (eqb k 1))
+pub clock_found : (n : ℕ) (z : Zone) {utc : Bool} → utc ≡ is_utc z → is_hms (n / 10000 % 100) (n / 100 % 100) (n % 100) ≡ true →
+    clock_by n z ≡ Some (time_of (n / 10000 % 100) (n / 100 % 100) (n % 100) utc)
 unfolding clock_by pick
-clock_found n k h e = rw (ne_eqb k 2 h, e)
+clock_found n z u e = rw (e, u)
 
-pub clock_missing : (n k : ℕ) → (k ≡ 2 → ⊥) → is_hms (n / 10000 % 100) (n / 100 % 100) (n % 100) ≡ false → clock_by n k ≡ none
+pub clock_missing : (n : ℕ) (z : Zone) → is_hms (n / 10000 % 100) (n / 100 % 100) (n % 100) ≡ false → clock_by n z ≡ None
 unfolding clock_by pick
-clock_missing n k h e = rw (ne_eqb k 2 h, e)
+clock_missing n z e = rw e
 
-pub clock_longer : (n k : ℕ) → k ≡ 2 → clock_by n k ≡ none
-unfolding clock_by pick
-clock_longer n k h = rw (eq-eqb k 2 h)
-
-module _ (x : Bool) {m : ℕ} {s : List ℕ} {c : ℕ} {w : Walk} (p : Walks (time_pattern (format_of x)) x m s c w) where
+module _ (x : Bool) {m : ℕ} {s : List ℕ} {c : ℕ} {w : Option Walk} (p : Walks (time_pattern (format_of x)) x m s c w) where
   followed : read_time (format_of x) (rest m s c) ≡ timed (walked x m s w)
   followed = time_along x (rest m s c) ∙ ap timed p.is
 
-  pub time_lost : w.ok ≡ false → read_time (format_of x) (rest m s c) ≡ none
-  unfolding walked timed pick
+  pub time_lost : w ≡ None → read_time (format_of x) (rest m s c) ≡ None
+  unfolding timed
   time_lost h = followed ∙ rw h
 
-  pub time_ended : {k : ℕ} → w.ok ≡ true → k ≡ zone (cased x (rest m s w.next)) → read_time (format_of x) (rest m s c) ≡ clock_by w.n k
-  unfolding walked timed pick
-  time_ended h e = followed ∙ rw (h, e) (clock_zone w.n _)
+  -- what follows the digits is o, if it is a zone
+  pub time_ended : {v : Walk} {o : Option Zone} → w ≡ Some v → o ≡ zone (cased x (rest m s v.next)) → read_time (format_of x) (rest m s c) ≡ and_then o (clock_by v.number)
+  unfolding timed
+  time_ended {v} h e = followed ∙ rw (h, e) (clock_zone v.number _)

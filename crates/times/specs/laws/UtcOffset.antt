@@ -1,9 +1,8 @@
 -- Laws of what specs/UtcOffset.antt defines.
 --     utc_offset_read_back, utc_offset_accepted, utc_offset_visible, utc_offset_no_comma; utc_offset_exact    an offset has one spelling in each
-use Rattle.std.specs.Prelude.{◌≡◌, refl, Bool, true, false, List, [], ◌∷◌, ℕ, suc, ◌+◌, eqb, length}
+use Rattle.std.specs.Prelude.{◌≡◌, refl, Bool, true, false, List, [], ◌∷◌, ℕ, suc, ◌+◌, eqb, length, None, Some}
 use Rattle.std.proofs.Common.{ap, arith, eqb-true}
 use Rattle.std.proofs.lemmas.Bool.{false≢true}
-use Rattle.std.proofs.Math.Option.{none, some}
 use Rattle.octets.specs.Pick.{pick, ◌and◌, ◌or◌}
 use Rattle.octets.specs.laws.Pick.{and_both, or_cases}
 use Rattle.octets.specs.Scan.{all_of}
@@ -43,7 +42,7 @@ utc_offset_length (b ∷ s) h p q =
     or_cases _ _ h (λ e. shift_length s (and_both _ _ e).1 (λ l. p (ap suc l)) (λ l. q (ap suc l)))
     (λ e. shift_length s (and_both _ _ (and_both _ _ e).1).0 (λ l. p (ap suc l)) (λ l. q (ap suc l)))
 
-pub utc_offset_read_back : (f : Format) (v : List ℕ) → is_utc_offset v ≡ true → read_utc_offset f (write_utc_offset f v) ≡ some v
+pub utc_offset_read_back : (f : Format) (v : List ℕ) → is_utc_offset v ≡ true → read_utc_offset f (write_utc_offset f v) ≡ Some v
 unfolding read_utc_offset write_utc_offset pick fits ◌and◌
 utc_offset_read_back ical v h = keep_yes is_utc_offset v h
 utc_offset_read_back xcal v h =
@@ -52,25 +51,25 @@ utc_offset_read_back xcal v h =
     (λ l. rw (l, marks_length second_marks v, l) (marked_read_back is_utc_offset second_marks v h (rw l)))
 
 -- what was read from XML has six characters or nine
-two_lengths : {P : Type 0} (s v : List ℕ) → read_utc_offset xcal s ≡ some v →
-    (length s ≡ 6 → and_then (without_marks minute_marks s) (keep is_utc_offset) ≡ some v → P) →
-    (length s ≡ 9 → and_then (without_marks second_marks s) (keep is_utc_offset) ≡ some v → P) → P
+two_lengths : {P : Type 0} (s v : List ℕ) → read_utc_offset xcal s ≡ Some v →
+    (length s ≡ 6 → and_then (without_marks minute_marks s) (keep is_utc_offset) ≡ Some v → P) →
+    (length s ≡ 9 → and_then (without_marks second_marks s) (keep is_utc_offset) ≡ Some v → P) → P
 unfolding read_utc_offset pick
 two_lengths {P} s v h p q = go (eqb (length s) 6) (eqb (length s) 9) refl refl h
   where
     go : (t u : Bool) → eqb (length s) 6 ≡ t → eqb (length s) 9 ≡ u →
-        pick t (and_then (without_marks minute_marks s) (keep is_utc_offset)) (pick u (and_then (without_marks second_marks s) (keep is_utc_offset)) none) ≡ some v → P
+        pick t (and_then (without_marks minute_marks s) (keep is_utc_offset)) (pick u (and_then (without_marks second_marks s) (keep is_utc_offset)) None) ≡ Some v → P
     go true u e d k = p (eqb-true _ _ e) k
     go false true e d k = q (eqb-true _ _ d) k
     go false false e d k = none-some k
 
-pub utc_offset_accepted : (f : Format) (s v : List ℕ) → read_utc_offset f s ≡ some v → is_utc_offset v ≡ true
+pub utc_offset_accepted : (f : Format) (s v : List ℕ) → read_utc_offset f s ≡ Some v → is_utc_offset v ≡ true
 unfolding read_utc_offset
 utc_offset_accepted ical s v h = keep_accepted is_utc_offset s v h
 utc_offset_accepted xcal s v h =
     two_lengths s v h (λ l k. marked_accepted is_utc_offset (without_marks minute_marks s) v k) (λ l k. marked_accepted is_utc_offset (without_marks second_marks s) v k)
 
-pub utc_offset_exact : (f : Format) (s v : List ℕ) → read_utc_offset f s ≡ some v → s ≡ write_utc_offset f v
+pub utc_offset_exact : (f : Format) (s v : List ℕ) → read_utc_offset f s ≡ Some v → s ≡ write_utc_offset f v
 unfolding read_utc_offset write_utc_offset pick
 utc_offset_exact ical s v h = keep_is is_utc_offset s v h
 utc_offset_exact xcal s v h =

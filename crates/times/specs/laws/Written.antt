@@ -1,7 +1,6 @@
 -- Laws of what specs/Written.antt defines.
 --     year-written, day_written, time_written, date_time_written    what the writers put is what the definitions write
-use Rattle.std.specs.Prelude.{◌≡◌, refl, Bool, true, false, List, [], ◌∷◌, ℕ}
-use Rattle.std.proofs.Math.Option.{Option}
+use Rattle.std.specs.Prelude.{◌≡◌, refl, Bool, true, false, List, [], ◌∷◌, ℕ, Option, None, Some}
 use Rattle.octets.specs.Pick.{pick}
 use Rattle.octets.specs.Append.{◌⊕◌}
 use Rattle.octets.specs.Reading.{or_nothing}
@@ -16,12 +15,9 @@ use Rattle.times.specs.TimeAlong.{hms, time_of, clock_of}
 use Rattle.times.specs.DateTimeAlong.{moment_of}
 use Rattle.times.specs.DateTime.{write_date_time}
 use Rattle.times.specs.Written.{marked, year_digits, day_bytes, clock_bytes, moment_bytes}
-use Rattle.times.specs.declared.date.DateRead.{DateRead}
-use Rattle.times.specs.declared.date.DateRead.TheVariants.{Day, NoDate}
-use Rattle.times.specs.declared.time.TimeRead.{TimeRead}
-use Rattle.times.specs.declared.time.TimeRead.TheVariants.{Clock, NoTime}
-use Rattle.times.specs.declared.date_time.DateTimeRead.{DateTimeRead}
-use Rattle.times.specs.declared.date_time.DateTimeRead.TheVariants.{Moment, NoDateTime}
+use Rattle.times.specs.declared.date.Date.{Date}
+use Rattle.times.specs.declared.time.Time.{Time}
+use Rattle.times.specs.declared.date_time.DateTime.{DateTime}
 
 pub day_written : (to : Bool) (y m d : ℕ) → write_date (format_of to) (date_of y m d) ≡ day_bytes to y m d
 unfolding write_date date_of with_marks put_mark two_digits year_digits marked day_bytes pick ◌⊕◌
@@ -41,23 +37,23 @@ date_time_written false y m d h i s z = refl
 -- ---- what was read, written
 
 module _ {d e : List ℕ} {o q : ℕ} (to : Bool) {l : Option (List ℕ)} where
-  module _ {r : DateRead} (p : l ≡ day_of r) where
-    pub put_day_read : {y m k : ℕ} → r ≡ Day y m k → Put d e o q (day_bytes to y m k) → Put d e o q (or_nothing (write_date (format_of to)) l)
-    put_day_read {y} {m} {k} h w = rw (p, h, day_written to y m k) w
+  module _ {r : Option Date} (p : l ≡ day_of r) where
+    pub put_day_read : {t : Date} → r ≡ Some t → Put d e o q (day_bytes to t.year t.month t.day) → Put d e o q (or_nothing (write_date (format_of to)) l)
+    put_day_read {t} h w = rw (p, h, day_written to t.year t.month t.day) w
 
-    pub put_no_day : r ≡ NoDate → Put d e o q [] → Put d e o q (or_nothing (write_date (format_of to)) l)
+    pub put_no_day : r ≡ None → Put d e o q [] → Put d e o q (or_nothing (write_date (format_of to)) l)
     put_no_day h w = rw (p, h) w
 
-  module _ {r : TimeRead} (p : l ≡ clock_of r) where
-    pub put_clock_read : {h m s : ℕ} {z : Bool} → r ≡ Clock h m s z → Put d e o q (clock_bytes to h m s z) → Put d e o q (or_nothing (write_time (format_of to)) l)
-    put_clock_read {h} {m} {s} {z} g w = rw (p, g, time_written to h m s z) w
+  module _ {r : Option Time} (p : l ≡ clock_of r) where
+    pub put_clock_read : {t : Time} → r ≡ Some t → Put d e o q (clock_bytes to t.hour t.minute t.second t.utc) → Put d e o q (or_nothing (write_time (format_of to)) l)
+    put_clock_read {t} g w = rw (p, g, time_written to t.hour t.minute t.second t.utc) w
 
-    pub put_no_clock : r ≡ NoTime → Put d e o q [] → Put d e o q (or_nothing (write_time (format_of to)) l)
+    pub put_no_clock : r ≡ None → Put d e o q [] → Put d e o q (or_nothing (write_time (format_of to)) l)
     put_no_clock h w = rw (p, h) w
 
-  module _ {r : DateTimeRead} (p : l ≡ moment_of r) where
-    pub put_moment_read : {y m k h i s : ℕ} {z : Bool} → r ≡ Moment y m k h i s z → Put d e o q (moment_bytes to y m k h i s z) → Put d e o q (or_nothing (write_date_time (format_of to)) l)
-    put_moment_read {y} {m} {k} {h} {i} {s} {z} g w = rw (p, g, date_time_written to y m k h i s z) w
+  module _ {r : Option DateTime} (p : l ≡ moment_of r) where
+    pub put_moment_read : {t : DateTime} → r ≡ Some t → Put d e o q (moment_bytes to t.date.year t.date.month t.date.day t.time.hour t.time.minute t.time.second t.time.utc) → Put d e o q (or_nothing (write_date_time (format_of to)) l)
+    put_moment_read {t} g w = rw (p, g, date_time_written to t.date.year t.date.month t.date.day t.time.hour t.time.minute t.time.second t.time.utc) w
 
-    pub put_no_moment : r ≡ NoDateTime → Put d e o q [] → Put d e o q (or_nothing (write_date_time (format_of to)) l)
+    pub put_no_moment : r ≡ None → Put d e o q [] → Put d e o q (or_nothing (write_date_time (format_of to)) l)
     put_no_moment h w = rw (p, h) w

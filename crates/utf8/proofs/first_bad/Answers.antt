@@ -1,8 +1,5 @@
 -- `utf8::first_bad` meets its contract.
-use Prim.Native.Nat.{◌-◌}
-use lib.ListN.{length}
-use Rattle.octets.specs.laws.Scan.{FoldingI, scanning}
-use Rattle.utf8.specs.Automaton.{start, step}
+use Rattle.octets.specs.laws.Scan.{scanning}
 use Rattle.utf8.specs.laws.Automaton.{found}
 use Rattle.utf8.proofs.first_bad.Goals as goal
 

@@ -1,9 +1,8 @@
 -- `utf8::first_bad` meets its contract.
 use Prim.Native.Nat.{◌-◌}
 use lib.ListN.{length}
-use Rattle.octets.specs.laws.Scan.{FoldingI, scanning}
+use Rattle.octets.specs.laws.Scan.{FoldingI}
 use Rattle.utf8.specs.Automaton.{start, step}
-use Rattle.utf8.specs.laws.Automaton.{found}
 use Rattle.utf8.proofs.first_bad.Given as goal
 
 abbrev pub invariant-loop-i : goal.invariant-loop-i

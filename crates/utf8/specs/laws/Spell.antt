@@ -1,8 +1,7 @@
 -- Laws of what specs/Spell.antt defines.
 --     spell_first      the check takes what is spelt for one character;   spell_good: it is well formed
-use Rattle.std.specs.Prelude.{◌≡◌, refl, Bool, true, false, List, [], ◌∷◌, ℕ, ◌+◌, ◌/◌, ◌≤◌, ◌<◌, eqb, leb, ltb, length}
+use Rattle.std.specs.Prelude.{◌≡◌, refl, Bool, true, false, List, [], ◌∷◌, ℕ, ◌+◌, ◌/◌, ◌≤◌, ◌<◌, eqb, leb, ltb, length, None}
 use Rattle.std.proofs.Common.{sym, ap, ◌∙◌, arith, lt-ltb, le-ltb, le-leb, leb-true, eqb-true, ne_eqb, ltb-true, ltb-false}
-use Rattle.std.proofs.Math.Option.{none}
 use Rattle.std.proofs.lemmas.Bool.{lt-leb}
 use Rattle.octets.specs.Pick.{pick, within, ◌and◌}
 use Rattle.octets.specs.laws.Pick.{pick_no, pick_either, within_yes, and_no_right, or_no, or_left, or_right, and_both, or_cases}
@@ -153,6 +152,6 @@ spell_first c h =
     short true e l h = spelt_two c l (ltb-true c 0x800 e)
     short false e l h = spelt_three c (ltb-false c 0x800 e) (omega arith) (omega arith)
 
-pub spell_good : (c : ℕ) → is_character c ≡ true → first_bad (spell c) ≡ none
+pub spell_good : (c : ℕ) → is_character c ≡ true → first_bad (spell c) ≡ None
 unfolding bad_from
 spell_good c h = ap first_bad (sym (append_none (spell c))) ∙ spell_first c h 0 []

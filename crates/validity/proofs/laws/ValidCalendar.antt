@@ -3,11 +3,10 @@
 --     valid_parameter, valid_property, valid_component    what a valid one is;   valid_parts: of a calendar;   component_valid: and back
 --     parameter_value_lem         the value of a parameter, by cases;   parameter_text, nothing_free: its free characters
 --     valid_shallow               nothing in valid components stands too deep
-use Rattle.std.specs.Prelude.{◌≡◌, Bool, true, not, List, [], ℕ, ◌-◌, ltb}
+use Rattle.std.specs.Prelude.{◌≡◌, Bool, true, not, List, [], ℕ, ◌-◌, ltb, Option, None, Some}
 use Rattle.std.proofs.Math.Path.{refl}
 use Rattle.std.proofs.Math.Bool.{false}
 use Rattle.std.proofs.lemmas.Bool.{false≢true}
-use Rattle.std.proofs.Math.Option.{Option, none, some}
 use borrow.Author.Tests.{not-true}
 use Rattle.octets.specs.Ascii.{ascii}
 use Rattle.octets.specs.Pick.{pick, ◌and◌, ◌or◌}
@@ -87,15 +86,15 @@ pub parameter_value_lem : (P : Value → Type 0) → ((b : Bool) → P (boolean 
 parameter_value_lem P b a u x r n v h = go (parameter_words n) h
   where
     word : (words : List (List ℕ)) (o : Option (List ℕ)) → text_in v ≡ o → is_word_in words o ≡ true → P v
-    word words none e k = absurd (false≢true k)
-    word words (some s) e k = rw (text_in_lem v s e) (x s)
+    word words None e k = absurd (false≢true k)
+    word words (Some s) e k = rw (text_in_lem v s e) (x s)
 
     go : (o : Option (List (List ℕ))) → is_parameter_value o (parameter_type n) v ≡ true → P v
-    go none k =
+    go None k =
         let c = and_both (same_type (type_of v) (parameter_type n)) _ k in
         let d = and_both (is_typed v) (same_type (type_of v) UNKNOWN or is_value v) c.1 in
         typed_value P b a u x r v d.0 d.1 (rw (same_type_true (type_of v) (parameter_type n) c.0) (parameter_type_lem n))
-    go (some words) k = word words (text_in v) refl k
+    go (Some words) k = word words (text_in v) refl k
 
 -- the free characters of a parameter's value
 pub parameter_text : (ed : Edition) (v : Value) → is_parameter_text ed v ≡ true → is_value_text v ≡ true

@@ -1,11 +1,10 @@
--- Values whose characters stand in XML as they are: dates and times, numbers, BINARY. None of them has `&`, `<` or `>`.
+-- Values whose characters stand in XML as they are: dates and times, numbers, BINARY. Absent of them has `&`, `<` or `>`.
 --     is_bare                a character that stands as it is
 --     bare_escaped           such characters have no entities;   chars_bare: nor have those of dates and times
 --     date_bare, time_bare, date_time_bare, duration_bare, offset_bare, integer_bare, float_bare, boolean_bare, binary_bare    what each type writes
-use Rattle.std.specs.Prelude.{◌≡◌, refl, Bool, true, false, List, [], ◌∷◌, ℕ, zero, suc, eqb, ltb, length}
+use Rattle.std.specs.Prelude.{◌≡◌, refl, Bool, true, false, List, [], ◌∷◌, ℕ, zero, suc, eqb, ltb, length, Some}
 use Rattle.std.proofs.Common.{sym, ap, ◌∙◌, ne_eqb, eqb-true}
 use Rattle.std.proofs.lemmas.Bool.{false≢true}
-use Rattle.std.proofs.Math.Option.{Option, none, some}
 use Rattle.octets.specs.Ascii.{ascii}
 use Rattle.octets.specs.Append.{◌⊕◌}
 use Rattle.octets.specs.Pick.{pick, ◌and◌, ◌or◌}
@@ -85,23 +84,23 @@ marks_all (m ∷ ms) p k s h =
 
 -- ---- dates and times
 
-pub date_bare : (l v : List ℕ) → read_date ical l ≡ some v → escaped (write_date xcal v) ≡ write_date xcal v
+pub date_bare : (l v : List ℕ) → read_date ical l ≡ Some v → escaped (write_date xcal v) ≡ write_date xcal v
 unfolding write_date every ◌and◌ pick
 date_bare l v h = bare_escaped _ (marks_all date_marks is_bare refl v (chars_bare v (date_chars v (date_accepted ical l v h))))
 
-pub time_bare : (l v : List ℕ) → read_time ical l ≡ some v → escaped (write_time xcal v) ≡ write_time xcal v
+pub time_bare : (l v : List ℕ) → read_time ical l ≡ Some v → escaped (write_time xcal v) ≡ write_time xcal v
 unfolding write_time every ◌and◌ pick
 time_bare l v h = bare_escaped _ (marks_all time_marks is_bare refl v (chars_bare v (time_chars v (time_accepted ical l v h))))
 
-pub date_time_bare : (l v : List ℕ) → read_date_time ical l ≡ some v → escaped (write_date_time xcal v) ≡ write_date_time xcal v
+pub date_time_bare : (l v : List ℕ) → read_date_time ical l ≡ Some v → escaped (write_date_time xcal v) ≡ write_date_time xcal v
 unfolding write_date_time every ◌and◌ pick
 date_time_bare l v h = bare_escaped _ (marks_all date_time_marks is_bare refl v (chars_bare v (date_time_chars v (date_time_accepted ical l v h))))
 
-pub duration_bare : (l v : List ℕ) → read_duration ical l ≡ some v → escaped (write_duration xcal v) ≡ write_duration xcal v
+pub duration_bare : (l v : List ℕ) → read_duration ical l ≡ Some v → escaped (write_duration xcal v) ≡ write_duration xcal v
 unfolding write_duration
 duration_bare l v h = bare_escaped v (chars_bare v (duration_chars v (duration_accepted ical l v h)))
 
-pub offset_bare : (l v : List ℕ) → read_utc_offset ical l ≡ some v → escaped (write_utc_offset xcal v) ≡ write_utc_offset xcal v
+pub offset_bare : (l v : List ℕ) → read_utc_offset ical l ≡ Some v → escaped (write_utc_offset xcal v) ≡ write_utc_offset xcal v
 unfolding write_utc_offset every ◌and◌ pick
 offset_bare l v h =
     let k = chars_bare v (utc_offset_chars v (utc_offset_accepted ical l v h)) in
@@ -113,7 +112,7 @@ pub integer_bare : (w : Whole) → escaped (write_integer w) ≡ write_integer w
 unfolding pick
 integer_bare w = bare_escaped _ (whole_all is_bare digit_bare refl w)
 
-pub float_bare : (l : List ℕ) (d : Decimal) → read_float l ≡ some d → escaped (write_float d) ≡ write_float d
+pub float_bare : (l : List ℕ) (d : Decimal) → read_float l ≡ Some d → escaped (write_float d) ≡ write_float d
 unfolding pick
 float_bare l d h = bare_escaped _ (float_all is_bare digit_bare refl refl d (float_accepted l d h))
 
@@ -138,5 +137,5 @@ from_bare [] n last h = refl
 from_bare (b ∷ s) n last h =
     all_cons is_bare b s (in_bare n last b (and_both (in_group n last b) _ h).0) (from_bare s (next_place n b) b (and_both (in_group n last b) _ h).1)
 
-pub binary_bare : (l v : List ℕ) → read_binary ical l ≡ some v → escaped v ≡ v
+pub binary_bare : (l v : List ℕ) → read_binary ical l ≡ Some v → escaped v ≡ v
 binary_bare l v h = bare_escaped v (from_bare v 0 0 (binary_accepted ical l v h))

@@ -1,8 +1,7 @@
 -- Laws of what specs/Characters.antt defines.
 --     free_or_shown    a value has free characters, or is written in characters that show
 --     value_one_line   no value is written with LF;   value_no_return: with CR only where its free characters have one
-use Rattle.std.specs.Prelude.{◌≡◌, refl, true, false, List, [], ℕ}
-use Rattle.std.proofs.Math.Option.{Option}
+use Rattle.std.specs.Prelude.{◌≡◌, refl, true, false, List, [], ℕ, Option}
 use Rattle.octets.specs.Pick.{◌and◌}
 use Rattle.octets.specs.laws.Pick.{and_both}
 use Rattle.octets.specs.Scan.{all_of}

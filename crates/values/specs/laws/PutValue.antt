@@ -1,10 +1,9 @@
 -- Laws of what specs/PutValue.antt defines.
 --     put_..       what the writer of each type puts is that
 --     placing      the choice of a type
-use Rattle.std.specs.Prelude.{◌≡◌, refl, Bool, List, [], ℕ, eqb}
+use Rattle.std.specs.Prelude.{◌≡◌, refl, Bool, List, [], ℕ, eqb, Option, None, Some, option_map}
 use Rattle.std.proofs.Common.{sym, rules, eq-eqb, ne_eqb}
 use Rattle.std.proofs.Math.Path.{subst}
-use Rattle.std.proofs.Math.Option.{Option, none, some, map}
 use Rattle.octets.specs.Pick.{pick}
 use Rattle.octets.specs.Reading.{or_nothing}
 use Rattle.calendar.specs.Calendar.{ical, xcal, ValueType, BINARY, BOOLEAN, CAL-ADDRESS, DATE, DATE-TIME, DURATION, FLOAT, INTEGER, PERIOD, RECUR, TEXT, TIME, URI, UTC-OFFSET, UNKNOWN}
@@ -21,9 +20,6 @@ use Rattle.times.specs.laws.Period.{period_accepted}
 use Rattle.numbers.specs.Integer.{read_integer, write_integer}
 use Rattle.numbers.specs.Float.{read_float, write_float}
 use Rattle.numbers.specs.Boolean.{read_boolean, write_boolean}
-use Rattle.numbers.specs.ReadBoolean.{truth_of}
-use Rattle.numbers.specs.declared.boolean.BooleanRead.{BooleanRead}
-use Rattle.numbers.specs.declared.boolean.BooleanRead.TheVariants.{Truth, Bad}
 use Rattle.texts.specs.Text.{read_text}
 use Rattle.texts.specs.Uri.{read_uri}
 use Rattle.texts.specs.Binary.{read_binary}
@@ -38,20 +34,20 @@ use Rattle.values.specs.laws.ValueAt.{from_binary_lem}
 use Rattle.values.specs.laws.Bare.{date_bare, time_bare, date_time_bare, duration_bare, offset_bare, integer_bare, float_bare, boolean_bare, binary_bare}
 use Rattle.values.specs.PutValue.{xml_of}
 
-mapped : {A : Type 0} (g : A → Value) (w : A → List ℕ) (o : Option A) → ((a : A) → o ≡ some a → escaped (value_characters (g a)) ≡ w a) → or_nothing w o ≡ xml_of (map g o)
+mapped : {A : Type 0} (g : A → Value) (w : A → List ℕ) (o : Option A) → ((a : A) → o ≡ Some a → escaped (value_characters (g a)) ≡ w a) → or_nothing w o ≡ xml_of (option_map g o)
 unfolding xml_of
-mapped g w none k = refl
-mapped g w (some a) k = sym (k a refl)
+mapped g w None k = refl
+mapped g w (Some a) k = sym (k a refl)
 
-nothing : (o : Option Value) → ((v : Value) → o ≡ some v → escaped (value_characters v) ≡ []) → [] ≡ xml_of o
+nothing : (o : Option Value) → ((v : Value) → o ≡ Some v → escaped (value_characters v) ≡ []) → [] ≡ xml_of o
 unfolding xml_of
-nothing none k = refl
-nothing (some v) k = sym (k v refl)
+nothing None k = refl
+nothing (Some v) k = sym (k v refl)
 
-no_rule : (o : Option (List RulePart)) → [] ≡ xml_of (map recur o)
+no_rule : (o : Option (List RulePart)) → [] ≡ xml_of (option_map recur o)
 unfolding xml_of value_characters escaped
-no_rule none = refl
-no_rule (some r) = refl
+no_rule None = refl
+no_rule (Some r) = refl
 
 module _ {d e : List ℕ} {o r : ℕ} (l : List ℕ) where
   pub put_date : Put d e o r (or_nothing (write_date xcal) (read_date ical l)) → Put d e o r (xml_of (read_value ical DATE l))
@@ -112,12 +108,12 @@ module _ {d e : List ℕ} {o r : ℕ} (l : List ℕ) where
   put_rule p = subst (Put d e o r) (no_rule (read_rule l)) p
 
   -- a BOOLEAN that was read
-  module _ {b : BooleanRead} (q : read_boolean ical l ≡ truth_of b) where
-    pub put_truth : {t : Bool} → b ≡ Truth t → Put d e o r (write_boolean xcal t) → Put d e o r (xml_of (read_value ical BOOLEAN l))
+  module _ {b : Option Bool} (q : read_boolean ical l ≡ b) where
+    pub put_truth : {t : Bool} → b ≡ Some t → Put d e o r (write_boolean xcal t) → Put d e o r (xml_of (read_value ical BOOLEAN l))
     unfolding read_value xml_of value_characters
     put_truth {t} h p = rw (q, h, boolean_bare t) p
 
-    pub put_no_truth : b ≡ Bad → Put d e o r [] → Put d e o r (xml_of (read_value ical BOOLEAN l))
+    pub put_no_truth : b ≡ None → Put d e o r [] → Put d e o r (xml_of (read_value ical BOOLEAN l))
     unfolding read_value xml_of
     put_no_truth h p = rw (q, h) p
 

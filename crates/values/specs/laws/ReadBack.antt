@@ -1,9 +1,8 @@
 -- Laws of what specs/ReadBack.antt defines.
 --     is_character_data  whether it is character data in XML, and not made of elements
 --     value_read_back, characters_read_back, value_accepted
-use Rattle.std.specs.Prelude.{◌≡◌, refl, Bool, true, false, List, ℕ}
+use Rattle.std.specs.Prelude.{◌≡◌, refl, Bool, true, false, List, ℕ, Option, None, Some, option_map}
 use Rattle.std.proofs.lemmas.Bool.{false≢true}
-use Rattle.std.proofs.Math.Option.{Option, none, some, map}
 use Rattle.octets.specs.laws.Pick.{and_yes, and_both}
 use Rattle.octets.specs.laws.Reading.{none-some}
 use Rattle.calendar.specs.Calendar.{Format, ical, xcal, ValueType, BINARY, BOOLEAN, CAL-ADDRESS, DATE, DATE-TIME, DURATION, FLOAT, INTEGER, PERIOD, RECUR, TEXT, TIME, URI, UTC-OFFSET, UNKNOWN}
@@ -60,7 +59,7 @@ is_character_data (request_status c d x) = false
 
 -- ---- what is written is read back
 
-pub value_read_back : (v : Value) → is_typed v ≡ true → is_value v ≡ true → read_value ical (type_of v) (write_value v) ≡ some v
+pub value_read_back : (v : Value) → is_typed v ≡ true → is_value v ≡ true → read_value ical (type_of v) (write_value v) ≡ Some v
 unfolding read_value write_value
 value_read_back (binary s) t h = rw (binary_read_back ical s h)
 value_read_back (boolean b) t h = rw (boolean_read_back ical b)
@@ -81,7 +80,7 @@ value_read_back (unknown s) t h = rw (unknown_read_back s h)
 value_read_back (geo la lo) t h = absurd (false≢true t)
 value_read_back (request_status c d x) t h = absurd (false≢true t)
 
-pub characters_read_back : (v : Value) → is_character_data v ≡ true → is_value v ≡ true → read_value xcal (type_of v) (value_characters v) ≡ some v
+pub characters_read_back : (v : Value) → is_character_data v ≡ true → is_value v ≡ true → read_value xcal (type_of v) (value_characters v) ≡ Some v
 unfolding read_value value_characters
 characters_read_back (binary s) t h = rw (binary_read_back xcal s h)
 characters_read_back (boolean b) t h = rw (boolean_read_back xcal b)
@@ -108,11 +107,11 @@ abbrev pub IsOfType : ValueType → Value → Type 0
 IsOfType t v = (is_value v ≡ true) × (is_typed v ≡ true) × (type_of v ≡ t)
 
 -- a value made of what was read: what holds of each such value holds of it
-pub made : {A : Type 0} (P : Value → Type 0) (g : A → Value) (o : Option A) (v : Value) → map g o ≡ some v → ((a : A) → o ≡ some a → P (g a)) → P v
-made P g none v h k = none-some h
-made P g (some a) v h k = let q : g a ≡ v = cc in rw (← q) (k a refl)
+pub made : {A : Type 0} (P : Value → Type 0) (g : A → Value) (o : Option A) (v : Value) → option_map g o ≡ Some v → ((a : A) → o ≡ Some a → P (g a)) → P v
+made P g None v h k = none-some h
+made P g (Some a) v h k = let q : g a ≡ v = cc in rw (← q) (k a refl)
 
-pub value_accepted : (f : Format) (t : ValueType) (s : List ℕ) (v : Value) → read_value f t s ≡ some v → IsOfType t v
+pub value_accepted : (f : Format) (t : ValueType) (s : List ℕ) (v : Value) → read_value f t s ≡ Some v → IsOfType t v
 unfolding read_value
 value_accepted f BINARY s v h = made (IsOfType BINARY) binary (read_binary f s) v h (λ a e. (binary_accepted f s a e, refl, refl))
 value_accepted f BOOLEAN s v h = made (IsOfType BOOLEAN) boolean (read_boolean f s) v h (λ a e. (refl, refl, refl))

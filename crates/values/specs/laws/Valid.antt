@@ -1,11 +1,10 @@
 -- Laws of what specs/Valid.antt defines.
 --     chosen_valid, property_value_valid    a value of a property is spelled as its type says
 --     kept_or_valid, parameter_value_valid  so is that of a parameter, or it is any characters
-use Rattle.std.specs.Prelude.{◌≡◌, refl, Bool, true, false, List, [], ◌∷◌, ℕ}
+use Rattle.std.specs.Prelude.{◌≡◌, refl, Bool, true, false, List, [], ◌∷◌, ℕ, Option, None, Some}
 use Rattle.std.proofs.Common.{sym}
 use Rattle.std.proofs.lemmas.Bool.{false≢true}
-use Rattle.std.proofs.Math.Option.{Option, none, some}
-use Rattle.octets.specs.Pick.{pick, ◌and◌, ◌or◌}
+use Rattle.octets.specs.Pick.{pick, ◌or◌}
 use Rattle.octets.specs.laws.Pick.{and_both, or_cases}
 use Rattle.octets.specs.Reading.{cons_read, read_each}
 use Rattle.octets.specs.laws.Reading.{none-some, and_then-some, cons_read-some, each_empty}
@@ -19,7 +18,7 @@ use Rattle.values.specs.Valid.{is_amount, is_word_in, is_chosen, is_parameter_va
 -- ---- laws of amounts
 
 -- as many as were read
-pub each_amount : {A B : Type 0} (f : A → Option B) (b : Bool) (l : List A) (r : List B) → read_each f l ≡ some r → is_amount b r ≡ is_amount b l
+pub each_amount : {A B : Type 0} (f : A → Option B) (b : Bool) (l : List A) (r : List B) → read_each f l ≡ Some r → is_amount b r ≡ is_amount b l
 unfolding read_each
 each_amount f b [] r h = let q : [] ≡ r = cc in rw (← q)
 each_amount f b (a ∷ l) r h =
@@ -37,7 +36,7 @@ only_one P f (x ∷ y ∷ l) h = absurd (false≢true h)
 -- ---- laws of values by their kind
 
 -- a value that is spelled as its type says is a TEXT, or has another type
-pub text_or_other : (P : Value → Type 0) → ((s : List ℕ) → P (text s)) → ((v : Value) → text_in v ≡ none → same_type (type_of v) TEXT ≡ false → P v) →
+pub text_or_other : (P : Value → Type 0) → ((s : List ℕ) → P (text s)) → ((v : Value) → text_in v ≡ None → same_type (type_of v) TEXT ≡ false → P v) →
     (v : Value) → is_typed v ≡ true → P v
 unfolding same_type
 text_or_other P t o (binary s) h = o (binary s) refl refl
@@ -59,7 +58,7 @@ text_or_other P t o (unknown s) h = o (unknown s) refl refl
 text_or_other P t o (geo la lo) h = absurd (false≢true h)
 text_or_other P t o (request_status c d x) h = absurd (false≢true h)
 
-pub text_in_lem : (v : Value) (s : List ℕ) → text_in v ≡ some s → v ≡ text s
+pub text_in_lem : (v : Value) (s : List ℕ) → text_in v ≡ Some s → v ≡ text s
 text_in_lem (binary b) s h = none-some h
 text_in_lem (boolean b) s h = none-some h
 text_in_lem (cal_address a) s h = none-some h
@@ -104,12 +103,12 @@ own_value P g r (request_status c d x) t h = r c d x
 -- ---- a value of a parameter or of a property is spelled as its type says
 
 pub chosen_valid : (o : Option (List (List ℕ))) (t : ValueType) (v : Value) → is_chosen o t v ≡ true → is_value v ≡ true
-chosen_valid none t v h = (and_both _ _ (and_both _ _ h).1).1
-chosen_valid (some words) t v h = go (text_in v) refl h
+chosen_valid None t v h = (and_both _ _ (and_both _ _ h).1).1
+chosen_valid (Some words) t v h = go (text_in v) refl h
   where
     go : (x : Option (List ℕ)) → text_in v ≡ x → is_word_in words x ≡ true → is_value v ≡ true
-    go none e k = absurd (false≢true k)
-    go (some s) e k = rw (text_in_lem v s e)
+    go None e k = absurd (false≢true k)
+    go (Some s) e k = rw (text_in_lem v s e)
 
 -- that of a parameter is, or is any characters
 pub any_unknown : (P : Value → Type 0) → ((s : List ℕ) → P (unknown s)) → (v : Value) → same_type (type_of v) UNKNOWN ≡ true → P v
@@ -137,8 +136,8 @@ pub kept_or_valid : (P : Value → Type 0) → ((s : List ℕ) → P (unknown s)
 kept_or_valid P u f v h = or_cases (same_type (type_of v) UNKNOWN) (is_value v) h (any_unknown P u v) (f v)
 
 pub parameter_value_valid : (P : Value → Type 0) → ((s : List ℕ) → P (unknown s)) → ((v : Value) → is_value v ≡ true → P v) → (o : Option (List (List ℕ))) (t : ValueType) (v : Value) → is_parameter_value o t v ≡ true → P v
-parameter_value_valid P u f none t v h = kept_or_valid P u f v (and_both _ _ (and_both _ _ h).1).1
-parameter_value_valid P u f (some words) t v h = f v (chosen_valid (some words) t v h)
+parameter_value_valid P u f None t v h = kept_or_valid P u f v (and_both _ _ (and_both _ _ h).1).1
+parameter_value_valid P u f (Some words) t v h = f v (chosen_valid (Some words) t v h)
 
 pub property_value_valid : (k n : List ℕ) (t : ValueType) (v : Value) → is_property_value k n t v ≡ true → is_value v ≡ true
 unfolding pick

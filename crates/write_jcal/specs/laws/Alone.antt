@@ -1,7 +1,7 @@
 -- Laws of what specs/Alone.antt defines.
---     alone_more, alone_last, alone_none    whether there is one component, by what was found
+--     alone_none, alone_is_last             whether there is one component, by what was found
 --     stream_alone, stream_several          what is written of it
-use Rattle.std.specs.Prelude.{◌≡◌, refl, Bool, true, false, List, ◌∷◌, ℕ, ◌<◌}
+use Rattle.std.specs.Prelude.{◌≡◌, refl, Bool, true, false, List, ◌∷◌, ℕ, ◌<◌, Option, None, Some, IfNone, IfSome, is_some, not}
 use Rattle.std.proofs.Common.{sym, ap, subst, ◌∙◌, arith, lt-ltb}
 use Rattle.std.proofs.lemmas.Bool.{false≢true}
 use Rattle.octets.specs.Ascii.{ascii}
@@ -24,7 +24,6 @@ use Rattle.text_entries.specs.Passing.{behind, Passed}
 use Rattle.text_entries.specs.laws.Passing.{inner_deeper}
 use Rattle.text_entries.specs.Levels.{is_none}
 use Rattle.text_entries.specs.laws.Levels.{same_any}
-use Rattle.write_jcal.specs.declared.alone.Begun.{Begun}
 use Rattle.write_jcal.specs.Walks.{inner_json}
 use Rattle.write_jcal.specs.Alone.{is_alone, Begins, NextBegun}
 
@@ -38,26 +37,31 @@ none_begin : (n : List ℕ) (es : List Entry) → is_none (inner_of (begin n ∷
 unfolding inner_of
 none_begin n es = refl
 
-module _ (ed : Edition) {mode : ℕ} {s : List ℕ} {from : ℕ} {a : Begun} (p : NextBegun ed mode s from a) where
-  there : (b : Bool) → a.there ≡ b → Begins ed b mode s from a.next
-  there b h = subst (λ (b : Bool). Begins ed b mode s from a.next) h p.begins
+module _ {ed : Edition} {mode : ℕ} {s : List ℕ} {from : ℕ} {a : Option ℕ} (p : NextBegun ed mode s from a) where
+  pub begun_at : {next : ℕ} → a ≡ Some next → Begins ed mode s from next
+  begun_at h = subst (λ (o : Option ℕ). IfSome o (Begins ed mode s from)) h p.begins
 
-  pub alone_none : a.there ≡ false → false ≡ is_alone (inner_of (entries_at ed mode s from) 0)
-  alone_none h = sym (ap is_alone (there false h))
+  begun_none : a ≡ None → inner_of (entries_at ed mode s from) 0 ≡ no_more
+  begun_none h = subst (λ (o : Option ℕ). IfNone o (inner_of (entries_at ed mode s from) 0 ≡ no_more)) h p.none
 
-  module _ (h : a.there ≡ true) {e : ℕ} (z : Passed ed mode s a.next e) where
-    rest_is : is_alone (inner_of (entries_at ed mode s from) 0) ≡ is_none (inner_of (entries_at ed mode s e) 0)
-    rest_is = let b = there true h in ap is_alone b.1 ∙ alone_begin b.0 (entries_at ed mode s a.next) ∙ ap (λ (es : List Entry). is_none (inner_of es 0)) (sym z.rest)
+  pub alone_none : a ≡ None → false ≡ is_alone (inner_of (entries_at ed mode s from) 0)
+  alone_none h = sym (ap is_alone (begun_none h))
 
-    module _ {b : Begun} (q : NextBegun ed mode s e b) where
-      then : (t : Bool) → b.there ≡ t → Begins ed t mode s e b.next
-      then t k = subst (λ (t : Bool). Begins ed t mode s e b.next) k q.begins
+not_again : (t : Bool) {u : Bool} → u ≡ not t → t ≡ not u
+not_again true h = rw h refl
+not_again false h = rw h refl
 
-      pub alone_more : b.there ≡ true → false ≡ is_alone (inner_of (entries_at ed mode s from) 0)
-      alone_more k = let c = then true k in sym (rest_is ∙ ap is_none c.1 ∙ none_begin c.0 (entries_at ed mode s b.next))
+-- whether nothing begins, by what was found
+module _ {ed : Edition} {mode : ℕ} {s : List ℕ} {from : ℕ} where
+  none_found : (b : Option ℕ) → NextBegun ed mode s from b → is_none (inner_of (entries_at ed mode s from) 0) ≡ not (is_some b)
+  none_found None q = ap is_none (begun_none q refl)
+  none_found (Some next) q = let b = begun_at q refl in ap is_none b.is ∙ none_begin b.name (entries_at ed mode s next)
 
-      pub alone_last : b.there ≡ false → true ≡ is_alone (inner_of (entries_at ed mode s from) 0)
-      alone_last k = sym (rest_is ∙ ap is_none (then false k))
+module _ {ed : Edition} {mode : ℕ} {s : List ℕ} {from : ℕ} {a : Option ℕ} (p : NextBegun ed mode s from a) {next : ℕ} (h : a ≡ Some next) {e : ℕ} (z : Passed ed mode s next e) where
+  pub alone_is_last : {b : Option ℕ} {t : Bool} → NextBegun ed mode s e b → is_some b ≡ not t → t ≡ is_alone (inner_of (entries_at ed mode s from) 0)
+  alone_is_last {b} {t} q k =
+      let c = begun_at p h in
+      not_again t k ∙ sym (ap is_alone c.is ∙ alone_begin c.name (entries_at ed mode s next) ∙ ap (λ (es : List Entry). is_none (inner_of es 0)) (sym z.rest) ∙ none_found b q)
 
 -- ---- the stream
 

@@ -6,13 +6,12 @@
 --     put_parameter                     a parameter
 --     least_value, least_member         a slice cut at its length, or before
 --     put_unread, put_shown             the object, or an empty one
-use Rattle.std.specs.Prelude.{◌≡◌, Bool, not, ℕ, min, ◌≤◌, length, take}
+use Rattle.std.specs.Prelude.{◌≡◌, Bool, not, ℕ, min, ◌≤◌, length, take, Option, None, Some, is_some, Result, Ok, Err}
 use Rattle.std.proofs.Math.Path.{refl, ap}
 use Rattle.std.proofs.Common.{sym, ◌∙◌, subst, arith, eq-eqb, ne_eqb}
 use Rattle.std.proofs.Math.Bool.{true, false}
 use Rattle.std.proofs.lemmas.Bool.{false≢true}
 use mathlib.Core.List.{List, [], ◌∷◌, map}
-use Rattle.std.proofs.Math.Option.{Option, none, some}
 use Rattle.std.proofs.Math.Decide.{dec_le}
 use Rattle.std.proofs.Math.ListN.{get_or-eq_default}
 use Rattle.octets.specs.Ascii.{ascii}
@@ -39,23 +38,18 @@ use Rattle.schema.specs.laws.Numbers.{parameter_place}
 use Rattle.schema.specs.laws.Places.{type_back}
 use Rattle.schema.specs.Sets.{parameter_words_at}
 use Rattle.numbers.specs.Boolean.{read_boolean}
-use Rattle.numbers.specs.ReadBoolean.{truth_of}
-use Rattle.numbers.specs.declared.boolean.BooleanRead.{BooleanRead}
-use Rattle.numbers.specs.declared.boolean.BooleanRead.TheVariants as truth
 use Rattle.values.specs.ReadValue.{read_value}
 use Rattle.values.specs.WriteValue.{value_characters}
 use Rattle.values.specs.laws.ReadBack.{value_accepted}
-use Rattle.values.specs.laws.ValueAt.{is_good}
-use Rattle.values.specs.declared.ValueRead.{ValueRead}
-use Rattle.values.specs.declared.ValueRead.TheVariants as value
 use Rattle.read_text_line.specs.ContentLine.{ParamValue, RawParameter, param_value, next_value}
 use Rattle.read_text_line.specs.Items.{items}
 use Rattle.read_text_line.specs.Decoded.{decoded_value}
-use Rattle.read_text_line.specs.Cursor.{values_of, values_at}
+use Rattle.read_text_line.specs.Cursor.{values_of, values_at, there}
 use Rattle.read_text_line.specs.laws.Repeating.{item_bad}
 use Rattle.read_text_line.specs.Values.{value_in, ValueAt}
-use Rattle.read_text_line.specs.laws.Values.{value_there, value_first, value_chars}
-use Rattle.read_text_line.specs.declared.ParamAt.{ParamAt}
+use Rattle.read_text_line.specs.laws.Values.{value_first, value_chars}
+use Rattle.read_text_line.specs.declared.Malformed.{Malformed}
+use Rattle.read_text_line.specs.declared.ValueCursors.{ValueCursors}
 use Rattle.text.specs.Parameters.{read_parameters}
 use Rattle.read_text_parameters.specs.Cutting.{param_read}
 use Rattle.read_text_parameters.specs.laws.Typing.{no_rule}
@@ -74,12 +68,12 @@ unfolding parameter_value octets_compute json_compute
 truth_is true = refl
 truth_is false = refl
 
-module _ {d e : List ℕ} {o r : ℕ} (l : List ℕ) {b : BooleanRead} (q : read_boolean ical l ≡ truth_of b) where
-  pub put_truth : {t : Bool} → b ≡ truth.Truth t → Put d e o r (truth_string t) → Put d e o r (or_nothing string_of (read_value ical BOOLEAN l))
+module _ {d e : List ℕ} {o r : ℕ} (l : List ℕ) {b : Option Bool} (q : read_boolean ical l ≡ b) where
+  pub put_truth : {t : Bool} → b ≡ Some t → Put d e o r (truth_string t) → Put d e o r (or_nothing string_of (read_value ical BOOLEAN l))
   unfolding read_value
   put_truth {t} h p = rw (q, h) (subst (Put d e o r) (truth_is t) p)
 
-  pub put_no_truth : b ≡ truth.Bad → Put d e o r [] → Put d e o r (or_nothing string_of (read_value ical BOOLEAN l))
+  pub put_no_truth : b ≡ None → Put d e o r [] → Put d e o r (or_nothing string_of (read_value ical BOOLEAN l))
   unfolding read_value
   put_no_truth h p = rw (q, h) p
 
@@ -114,26 +108,26 @@ no_truth t a e = go (dec_le 14 t)
     go (yes k) = let z : type_place (type_at t) ≡ 14 = rw (get_or-eq_default value_types UNKNOWN k) in let y : ◌≡◌ {A = ℕ} 14 1 = sym z ∙ e in absurd (omega arith)
     go (no k) = a (sym (type_back t (omega arith)) ∙ e)
 
-read_alike : (t : ℕ) (l : List ℕ) (v : Value) → (t ≡ 1 → ⊥) → read_value ical (type_at t) l ≡ some v → value_characters v ≡ parameter_value v
+read_alike : (t : ℕ) (l : List ℕ) (v : Value) → (t ≡ 1 → ⊥) → read_value ical (type_at t) l ≡ Some v → value_characters v ≡ parameter_value v
 read_alike t l v a h = alike v (λ e. no_truth t a (ap type_place (sym (value_accepted ical (type_at t) l v h).2) ∙ e))
 
-module _ {d e : List ℕ} {o r : ℕ} (t : ℕ) (l : List ℕ) {x : ValueRead} (p : is_read (read_value ical (type_at t) l) ≡ is_good x) where
-  pub put_good : {k : ℕ} → (t ≡ 1 → ⊥) → x ≡ value.Good k → Put d e o r (ascii "\"" ⊕ or_nothing (λ v. escaped (value_characters v)) (read_value ical (type_at t) l) ⊕ ascii "\"") →
+module _ {d e : List ℕ} {o r : ℕ} (t : ℕ) (l : List ℕ) {x : Option ℕ} (p : is_read (read_value ical (type_at t) l) ≡ is_some x) where
+  pub put_good : {k : ℕ} → (t ≡ 1 → ⊥) → x ≡ Some k → Put d e o r (ascii "\"" ⊕ or_nothing (λ v. escaped (value_characters v)) (read_value ical (type_at t) l) ⊕ ascii "\"") →
       Put d e o r (or_nothing string_of (read_value ical (type_at t) l))
   unfolding is_read
-  put_good a h w = go (read_value ical (type_at t) l) refl (p ∙ ap is_good h) w
+  put_good a h w = go (read_value ical (type_at t) l) refl (p ∙ ap is_some h) w
     where
       go : (u : Option Value) → read_value ical (type_at t) l ≡ u → is_read u ≡ true → Put d e o r (ascii "\"" ⊕ or_nothing (λ v. escaped (value_characters v)) u ⊕ ascii "\"") → Put d e o r (or_nothing string_of u)
-      go none k z w = absurd (false≢true z)
-      go (some v) k z w = rw (← (read_alike t l v a k)) w
+      go None k z w = absurd (false≢true z)
+      go (Some v) k z w = rw (← (read_alike t l v a k)) w
 
-  pub put_bad : x ≡ value.Bad → Put d e o r [] → Put d e o r (or_nothing string_of (read_value ical (type_at t) l))
+  pub put_bad : x ≡ None → Put d e o r [] → Put d e o r (or_nothing string_of (read_value ical (type_at t) l))
   unfolding is_read
-  put_bad h w = go (read_value ical (type_at t) l) (p ∙ ap is_good h)
+  put_bad h w = go (read_value ical (type_at t) l) (p ∙ ap is_some h)
     where
       go : (u : Option Value) → is_read u ≡ false → Put d e o r (or_nothing string_of u)
-      go none z = w
-      go (some v) z = absurd (false≢true (sym z))
+      go None z = w
+      go (Some v) z = absurd (false≢true (sym z))
 
 pub put_boolean : {d e : List ℕ} {o r : ℕ} (t : ℕ) (l : List ℕ) → t ≡ 1 → Put d e o r (or_nothing string_of (read_value ical BOOLEAN l)) → Put d e o r (or_nothing string_of (read_value ical (type_at t) l))
 put_boolean t l h w = rw h w
@@ -169,17 +163,17 @@ unfolding joined_by
 array_of x y l = ap (λ (m : List ℕ). ascii "[" ⊕ m) (sym (append_regroup x (each_after value_separator (y ∷ l)) (ascii "]")))
 
 -- the value that was found
-abbrev found : ℕ → List ℕ → ParamAt → ParamValue
+abbrev found : ℕ → List ℕ → ValueCursors → ParamValue
 found m s r = value_in m s r.quoted r.from
 
-module _ (ed : Edition) (p : ParameterRow) {m : ℕ} {s : List ℕ} {c : ℕ} {r : ParamAt} (y : cuts m ≡ true) (v : ValueAt param_value m s c r) {d e : List ℕ} {o n : ℕ} where
-  module _ {t : Bool} (h : r.ok ≡ true) (q : t ≡ not (is_empty (items next_value (rest m s r.next)))) where
+module _ (ed : Edition) (p : ParameterRow) {m : ℕ} {s : List ℕ} {c : ℕ} {b : Result ValueCursors Malformed} (y : cuts m ≡ true) (v : ValueAt param_value m s c (there b)) {d e : List ℕ} {o n : ℕ} where
+  module _ {t : Bool} {r : ValueCursors} (h : b ≡ Ok r) (q : t ≡ not (is_empty (items next_value (rest m s r.next)))) where
     pub put_several : t ≡ true →
         Put d e o n (ascii "[" ⊕ value_shown p (decode ed (rest m (take r.to s) r.from)) ⊕ each_after value_separator (map (chars_in ed p) (items next_value (rest m s r.next))) ⊕ ascii "]") →
         Put d e o n (one_or_array (map (chars_in ed p) (values_at m s c)))
     put_several z w =
-        rw (value_first v h) (go (items next_value (rest m s r.next)) (sym q ∙ z)
-        (subst (λ (l : List ℕ). Put d e o n (ascii "[" ⊕ value_shown p (decode ed l) ⊕ each_after value_separator (map (chars_in ed p) (items next_value (rest m s r.next))) ⊕ ascii "]")) (value_chars y v (value_there v)) w))
+        rw (value_first v (ap there h)) (go (items next_value (rest m s r.next)) (sym q ∙ z)
+        (subst (λ (l : List ℕ). Put d e o n (ascii "[" ⊕ value_shown p (decode ed l) ⊕ each_after value_separator (map (chars_in ed p) (items next_value (rest m s r.next))) ⊕ ascii "]")) (value_chars y v (ap there h)) w))
       where
         go : (l : List ParamValue) → not (is_empty l) ≡ true → Put d e o n (ascii "[" ⊕ chars_in ed p (found m s r) ⊕ each_after value_separator (map (chars_in ed p) l) ⊕ ascii "]") →
             Put d e o n (one_or_array (chars_in ed p (found m s r) ∷ map (chars_in ed p) l))
@@ -188,15 +182,15 @@ module _ (ed : Edition) (p : ParameterRow) {m : ℕ} {s : List ℕ} {c : ℕ} {r
 
     pub put_alone : t ≡ false → Put d e o n (value_shown p (decode ed (rest m (take r.to s) r.from))) → Put d e o n (one_or_array (map (chars_in ed p) (values_at m s c)))
     put_alone z w =
-        rw (value_first v h) (go (items next_value (rest m s r.next)) (sym q ∙ z) (subst (λ (l : List ℕ). Put d e o n (value_shown p (decode ed l))) (value_chars y v (value_there v)) w))
+        rw (value_first v (ap there h)) (go (items next_value (rest m s r.next)) (sym q ∙ z) (subst (λ (l : List ℕ). Put d e o n (value_shown p (decode ed l))) (value_chars y v (ap there h)) w))
       where
         go : (l : List ParamValue) → not (is_empty l) ≡ false → Put d e o n (chars_in ed p (found m s r)) → Put d e o n (one_or_array (chars_in ed p (found m s r) ∷ map (chars_in ed p) l))
         go [] k w = w
         go (a ∷ l) k w = absurd (false≢true (sym k))
 
-  pub put_no_first : r.ok ≡ false → Put d e o n (ascii "[]") → Put d e o n (one_or_array (map (chars_in ed p) (values_at m s c)))
+  pub put_no_first : {x : Malformed} → b ≡ Err x → Put d e o n (ascii "[]") → Put d e o n (one_or_array (map (chars_in ed p) (values_at m s c)))
   unfolding values_of joined_by ◌⊕◌
-  put_no_first h w = rw (item_bad v.item (value_there v) h) w
+  put_no_first h w = rw (item_bad v.item (ap there h)) w
 
 -- ---- a parameter
 
@@ -228,13 +222,13 @@ module _ {d e : List ℕ} {o r : ℕ} (rs : List RawParameter) {t : Bool} (h : t
   put_unread k w = go (read_parameters rs) (sym h ∙ k)
     where
       go : (q : Option (List Parameter)) → is_read q ≡ false → Put d e o r (object_of (map parameter_json (read_or [] q)))
-      go none z = w
-      go (some ps) z = absurd (false≢true (sym z))
+      go None z = w
+      go (Some ps) z = absurd (false≢true (sym z))
 
   pub put_shown : t ≡ true → Put d e o r (object_of (members_shown rs)) → Put d e o r (object_of (map parameter_json (read_or [] (read_parameters rs))))
   unfolding is_read read_or
   put_shown k w = go (read_parameters rs) refl (sym h ∙ k)
     where
       go : (q : Option (List Parameter)) → read_parameters rs ≡ q → is_read q ≡ true → Put d e o r (object_of (map parameter_json (read_or [] q)))
-      go none x z = absurd (false≢true z)
-      go (some ps) x z = rw (← (shown_is rs ps x)) w
+      go None x z = absurd (false≢true z)
+      go (Some ps) x z = rw (← (shown_is rs ps x)) w

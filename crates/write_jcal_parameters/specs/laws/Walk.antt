@@ -1,8 +1,8 @@
 -- Loops that write one item of a list after another.
 --     value_written, values_over, values_fault     over the values of a parameter
---     next_there, next_over                        whether another value follows
+--     next_there, next_over, next_fault            whether another value follows
 --     value_passed, param_written, params_over, params_fault     over the parameters of a line
-use Rattle.std.specs.Prelude.{◌≡◌, refl, Bool, true, false, not, List, [], ◌∷◌, map, ℕ, take}
+use Rattle.std.specs.Prelude.{◌≡◌, refl, Bool, true, false, not, List, [], ◌∷◌, map, ℕ, take, Option, None, Some, Result, Ok, Err}
 use Rattle.std.proofs.Common.{sym, ◌∙◌, subst, ap}
 use Rattle.octets.specs.Ascii.{ascii}
 use Rattle.octets.specs.Pick.{pick}
@@ -21,9 +21,10 @@ use Rattle.read_text_line.specs.Cursor.{params_at}
 use Rattle.read_text_line.specs.Values.{ValueAt}
 use Rattle.read_text_line.specs.laws.Values.{value_chars, value_more, value_over, value_fault}
 use Rattle.read_text_line.specs.Params.{ParamOf}
-use Rattle.read_text_line.specs.laws.Params.{name_chars, param_more, param_over, param_fault}
-use Rattle.read_text_line.specs.declared.ParamAt.{ParamAt}
-use Rattle.read_text_line.specs.declared.ParamRead.{ParamRead}
+use Rattle.read_text_line.specs.laws.Params.{name_chars, param_more, param_parts, param_over, param_fault}
+use Rattle.read_text_line.specs.declared.Malformed.{Malformed}
+use Rattle.read_text_line.specs.declared.ValueCursors.{ValueCursors}
+use Rattle.read_text_line.specs.declared.ParameterCursors.{ParameterCursors}
 use Rattle.text.specs.Parameters.{is_value_parameter, own_parameters}
 use Rattle.read_text_parameters.specs.Cutting.{param_cut, param_read}
 use Rattle.json_text.specs.Bytes.{value_separator}
@@ -33,38 +34,37 @@ use Rattle.write_jcal_parameters.specs.Shown.{value_shown, chars_in, shown, memb
 
 -- ---- the values that follow the first
 
-module _ (ed : Edition) (p : ParameterRow) {d₀ : List ℕ} {at₀ : ℕ} {all : List (List ℕ)} {d : List ℕ} {at n : ℕ} {s : List ℕ} {c : ℕ} {r : ParamAt}
+module _ (ed : Edition) (p : ParameterRow) {d₀ : List ℕ} {at₀ : ℕ} {all : List (List ℕ)} {d : List ℕ} {at n : ℕ} {s : List ℕ} {c : ℕ} {r : Result (Option ValueCursors) Malformed}
     (y : cuts n ≡ true) (t : Listing true all d₀ at₀ d at true (map (chars_in ed p) (items next_value (rest n s c)))) (v : ValueAt next_value n s c r) where
-  pub value_written : {e f : List ℕ} {a m : ℕ} → r.there ≡ true → r.ok ≡ true → Put d e at a (ascii ",") → Put e f a m (value_shown p (decode ed (rest n (take r.to s) r.from))) →
-      Listing true all d₀ at₀ f m true (map (chars_in ed p) (items next_value (rest n s r.next)))
-  value_written {e} {f} {a} {m} h k x w =
-      listing_more t _ _ (ap (map (chars_in ed p)) (value_more v h k))
+  pub value_written : {u : ValueCursors} {e f : List ℕ} {a m : ℕ} → r ≡ Ok (Some u) → Put d e at a (ascii ",") → Put e f a m (value_shown p (decode ed (rest n (take u.to s) u.from))) →
+      Listing true all d₀ at₀ f m true (map (chars_in ed p) (items next_value (rest n s u.next)))
+  value_written {u} {e} {f} {a} {m} h x w =
+      listing_more t _ _ (ap (map (chars_in ed p)) (value_more v h))
       (comma_before _ x (subst (λ (l : List ℕ). Put e f a m (value_shown p (decode ed l))) (value_chars y v h) w))
 
-  pub values_over : r.there ≡ false → Put d₀ d at₀ at (each_after value_separator all)
+  pub values_over : r ≡ Ok None → Put d₀ d at₀ at (each_after value_separator all)
   values_over h = put_after all (listing_end t (ap (map (chars_in ed p)) (value_over v h)))
 
-  pub values_fault : r.there ≡ true → r.ok ≡ false → Put d₀ d at₀ at (each_after value_separator all)
-  values_fault h k = put_after all (listing_end t (ap (map (chars_in ed p)) (value_fault v h k)))
+  pub values_fault : {x : Malformed} → r ≡ Err x → Put d₀ d at₀ at (each_after value_separator all)
+  values_fault h = put_after all (listing_end t (ap (map (chars_in ed p)) (value_fault v h)))
 
 -- ---- whether another follows
 
-module _ {n : ℕ} {s : List ℕ} {c : ℕ} {r : ParamAt} (v : ValueAt next_value n s c r) where
-  pub next_there : r.there ≡ true → r.ok ≡ not (is_empty (items next_value (rest n s c)))
-  next_there h = go r.ok refl
-    where
-      go : (b : Bool) → r.ok ≡ b → b ≡ not (is_empty (items next_value (rest n s c)))
-      go true k = rw (value_more v h k)
-      go false k = rw (value_fault v h k)
+module _ {n : ℕ} {s : List ℕ} {c : ℕ} {r : Result (Option ValueCursors) Malformed} (v : ValueAt next_value n s c r) where
+  pub next_there : {u : ValueCursors} → r ≡ Ok (Some u) → true ≡ not (is_empty (items next_value (rest n s c)))
+  next_there h = rw (value_more v h)
 
-  pub next_over : r.there ≡ false → false ≡ not (is_empty (items next_value (rest n s c)))
+  pub next_over : r ≡ Ok None → false ≡ not (is_empty (items next_value (rest n s c)))
   next_over h = rw (value_over v h)
+
+  pub next_fault : {x : Malformed} → r ≡ Err x → false ≡ not (is_empty (items next_value (rest n s c)))
+  next_fault h = rw (value_fault v h)
 
 -- ---- the parameters of a line
 
-module _ {n : ℕ} {s : List ℕ} {c : ℕ} {r : ParamRead} (y : cuts n ≡ true) (a : ParamOf next_param n s c r) (h : r.there ≡ true) (k : r.ok ≡ true) where
-  cut_more : params_at n s c ≡ param_cut n s r.name r.end r.first ∷ params_at n s r.next
-  cut_more = param_more a h k ∙ rw (name_chars y (a.named h k))
+module _ {n : ℕ} {s : List ℕ} {c : ℕ} {r : Result (Option ParameterCursors) Malformed} (y : cuts n ≡ true) (a : ParamOf next_param n s c r) {p : ParameterCursors} (h : r ≡ Ok (Some p)) where
+  cut_more : params_at n s c ≡ param_cut n s p.name p.end p.first ∷ params_at n s p.next
+  cut_more = param_more a h ∙ rw (name_chars y (param_parts a h).named)
 
 members_value : (r : RawParameter) (rs : List RawParameter) → is_value_parameter r ≡ true → members_shown (r ∷ rs) ≡ members_shown rs
 unfolding own_parameters pick
@@ -78,18 +78,18 @@ members_none : members_shown [] ≡ []
 unfolding own_parameters
 members_none = refl
 
-module _ (ed : Edition) {d₀ : List ℕ} {at₀ : ℕ} {all : List (List ℕ)} {d : List ℕ} {at : ℕ} {started : Bool} {n : ℕ} {s : List ℕ} {c : ℕ} {r : ParamRead}
+module _ (ed : Edition) {d₀ : List ℕ} {at₀ : ℕ} {all : List (List ℕ)} {d : List ℕ} {at : ℕ} {started : Bool} {n : ℕ} {s : List ℕ} {c : ℕ} {r : Result (Option ParameterCursors) Malformed}
     (y : cuts n ≡ true) (t : Listing false all d₀ at₀ d at started (members_shown (params_in ed n s c))) (a : ParamOf next_param n s c r) where
-  module _ {b : Bool} (h : r.there ≡ true) (k : r.ok ≡ true) (q : b ≡ same (upper (rest n (take r.end s) r.name)) (ascii "VALUE")) where
-    pub value_passed : b ≡ true → Listing false all d₀ at₀ d at started (members_shown (params_in ed n s r.next))
-    value_passed z = listing_same t _ (ap (λ (l : List RawParameter). members_shown (map (decoded_parameter ed) l)) (cut_more y a h k) ∙ members_value _ _ (sym q ∙ z))
+  module _ {b : Bool} {p : ParameterCursors} (h : r ≡ Ok (Some p)) (q : b ≡ same (upper (rest n (take p.end s) p.name)) (ascii "VALUE")) where
+    pub value_passed : b ≡ true → Listing false all d₀ at₀ d at started (members_shown (params_in ed n s p.next))
+    value_passed z = listing_same t _ (ap (λ (l : List RawParameter). members_shown (map (decoded_parameter ed) l)) (cut_more y a h) ∙ members_value _ _ (sym q ∙ z))
 
-    pub param_written : {e : List ℕ} {m : ℕ} → b ≡ false → Put d e at m (separator started ⊕ shown (param_read ed n s r.name r.end r.first)) →
-        Listing false all d₀ at₀ e m true (members_shown (params_in ed n s r.next))
-    param_written z w = listing_more t _ _ (ap (λ (l : List RawParameter). members_shown (map (decoded_parameter ed) l)) (cut_more y a h k) ∙ members_own _ _ (sym q ∙ z)) w
+    pub param_written : {e : List ℕ} {m : ℕ} → b ≡ false → Put d e at m (separator started ⊕ shown (param_read ed n s p.name p.end p.first)) →
+        Listing false all d₀ at₀ e m true (members_shown (params_in ed n s p.next))
+    param_written z w = listing_more t _ _ (ap (λ (l : List RawParameter). members_shown (map (decoded_parameter ed) l)) (cut_more y a h) ∙ members_own _ _ (sym q ∙ z)) w
 
-  pub params_over : r.there ≡ false → Put d₀ d at₀ at (joined_by value_separator all)
+  pub params_over : r ≡ Ok None → Put d₀ d at₀ at (joined_by value_separator all)
   params_over h = put_first all (listing_end t (ap (λ (l : List RawParameter). members_shown (map (decoded_parameter ed) l)) (param_over a h) ∙ members_none))
 
-  pub params_fault : r.there ≡ true → r.ok ≡ false → Put d₀ d at₀ at (joined_by value_separator all)
-  params_fault h k = put_first all (listing_end t (ap (λ (l : List RawParameter). members_shown (map (decoded_parameter ed) l)) (param_fault a h k) ∙ members_none))
+  pub params_fault : {x : Malformed} → r ≡ Err x → Put d₀ d at₀ at (joined_by value_separator all)
+  params_fault h = put_first all (listing_end t (ap (λ (l : List RawParameter). members_shown (map (decoded_parameter ed) l)) (param_fault a h) ∙ members_none))

@@ -1,11 +1,10 @@
 -- Laws of what specs/Property.antt defines.
 --     property_json_lem  it is the array of the property that the line states
 --     put_typed, put_untyped    the type and the values, by the type that was found
-use Rattle.std.specs.Prelude.{◌≡◌, refl, true}
+use Rattle.std.specs.Prelude.{◌≡◌, refl, true, Option, option_map, None, Some, unwrap_or}
 use Rattle.std.proofs.Math.Path.{ap}
-use Rattle.std.proofs.Common.{◌∙◌}
+use Rattle.std.proofs.Common.{◌∙◌, subst}
 use mathlib.Core.List.{List, [], ◌∷◌}
-use Rattle.std.proofs.Math.Option.{Option, map}
 use Prim.Native.Nat.{ℕ}
 use Rattle.octets.specs.Ascii.{ascii}
 use Rattle.octets.specs.Append.{◌⊕◌}
@@ -30,7 +29,6 @@ use Rattle.read_text_line.specs.Decoded.{decoded_line, read_line}
 use Rattle.read_text_line.specs.laws.Params.{name_chars}
 use Rattle.read_text_line.specs.Line.{LineAt}
 use Rattle.read_text_line.specs.declared.LineCursors.{LineCursors}
-use Rattle.read_text_line.specs.declared.LineRead.TheVariants.{Line}
 use Rattle.text.specs.Values.{read_values}
 use Rattle.text.specs.Statement.{property_of}
 use Rattle.json_text.specs.Bytes.{value_separator}
@@ -40,8 +38,6 @@ use Rattle.write_jcal_property.specs.Shown.{typed_json}
 use Rattle.write_jcal_property.specs.Property.{name_in, stated_json, parts_json}
 use Rattle.read_text_parameters.specs.Stating.{StatedAt}
 use Rattle.read_text_parameters.specs.laws.Stating.{stated_names, stated_none}
-use Rattle.read_text_parameters.specs.declared.TypeRead.{TypeRead}
-use Rattle.read_text_parameters.specs.declared.TypeRead.TheVariants.{«Type» as Typed, Bad as NoType}
 
 seam : (l : List ℕ) → 44 ∷ l ≡ ascii "," ⊕ l
 unfolding ◌⊕◌
@@ -57,11 +53,11 @@ array_parts a b t vs =
     let w : List ℕ = t ⊕ each_after value_separator vs in
     rw (seam w, seam (b ⊕ ascii "," ⊕ w)) (regroup (ascii "[") (ascii ",") (ascii "]") a b w)
 
-module _ {m : ℕ} {s : List ℕ} {c : ℕ} {l : LineCursors} (y : cuts m ≡ true) (a : LineAt m s c (Line l)) where
+module _ {m : ℕ} {s : List ℕ} {c : ℕ} {l : LineCursors} (y : cuts m ≡ true) (a : LineAt m s c (Some l)) where
   pub property_json_lem : (ed : Edition) (k : ℕ) → or_nothing (λ x. property_json (property_of (component_name k) x)) (read_line ed (rest m s c)) ≡ parts_json ed k m s l
   unfolding property_json property_of typed_json
   property_json_lem ed k =
-      ap (λ (o : Option ContentLine). or_nothing (λ x. property_json (property_of (component_name k) x)) (map (decoded_line ed) o)) a.is
+      ap (λ (o : Option ContentLine). or_nothing (λ x. property_json (property_of (component_name k) x)) (option_map (decoded_line ed) o)) a.is
       ∙ rw (name_chars y a.parts.1.name, lower_any_case (run_of is_name_char (rest m s l.name))) (array_parts _ _ _ _)
 
 -- ---- for the code
@@ -78,12 +74,19 @@ default_of : {row : Row} (w : List ℕ) → row ≡ row_at (place_of w property_
 default_of w h = ap (λ (x : Row). x.default) h ∙ default_place w
 
 -- the values, by the row of the line's name and by the type that was found
-module _ {ed : Edition} {d f : List ℕ} {at o : ℕ} (k : ℕ) {row : Row} {m : ℕ} {s : List ℕ} (c : ℕ) {e : ℕ} (v : ℕ) {r : TypeRead}
+module _ {ed : Edition} {d f : List ℕ} {at o : ℕ} (k : ℕ) {row : Row} {m : ℕ} {s : List ℕ} (c : ℕ) {e : ℕ} (v : ℕ) {r : Option ℕ}
     (h : row ≡ row_at (place_of (upper (name_in m s (cursors c e v))) property_names)) (a : StatedAt ed row.default m s e r) where
-  pub put_typed : (t : ℕ) → r ≡ Typed t → ((w : List ℕ) → row ≡ row_at (place_of w property_names) → Put d f at o (values_of k m s v w t)) → Put d f at o (stated_json ed k m s (cursors c e v))
+  put_typed : (t : ℕ) → r ≡ Some t → ((w : List ℕ) → row ≡ row_at (place_of w property_names) → Put d f at o (values_of k m s v w t)) → Put d f at o (stated_json ed k m s (cursors c e v))
   unfolding read_or
   put_typed t z w = let n : List ℕ = upper (name_in m s (cursors c e v)) in rw (stated_names a n (default_of n h) z).0 (w n h)
 
-  pub put_untyped : r ≡ NoType → ((w : List ℕ) → row ≡ row_at (place_of w property_names) → Put d f at o (values_of k m s v w 10)) → Put d f at o (stated_json ed k m s (cursors c e v))
+  put_untyped : r ≡ None → ((w : List ℕ) → row ≡ row_at (place_of w property_names) → Put d f at o (values_of k m s v w 10)) → Put d f at o (stated_json ed k m s (cursors c e v))
   unfolding read_or
   put_untyped z w = let n : List ℕ = upper (name_in m s (cursors c e v)) in rw (stated_none a n (default_of n h) z) (w n h)
+
+  pub put_stated : {t : ℕ} → t ≡ unwrap_or r 10 → ((w : List ℕ) → row ≡ row_at (place_of w property_names) → Put d f at o (values_of k m s v w t)) → Put d f at o (stated_json ed k m s (cursors c e v))
+  put_stated {t} z p = go r refl z
+    where
+      go : (x : Option ℕ) → r ≡ x → t ≡ unwrap_or x 10 → Put d f at o (stated_json ed k m s (cursors c e v))
+      go None i j = put_untyped i (subst (λ (u : ℕ). (w : List ℕ) → row ≡ row_at (place_of w property_names) → Put d f at o (values_of k m s v w u)) j p)
+      go (Some u) i j = put_typed u i (subst (λ (u : ℕ). (w : List ℕ) → row ≡ row_at (place_of w property_names) → Put d f at o (values_of k m s v w u)) j p)

@@ -3,11 +3,10 @@
 --     put_uri, put_address, put_text, put_unknown    what the writer of each type puts is that
 --     put_other      the other types have no character that is escaped in XML or in JSON
 --     put_at         the type by its number
-use Rattle.std.specs.Prelude.{◌≡◌, refl, Bool, true, false, List, ℕ, ◌*◌, ◌^◌, ◌≤◌, ◌<◌, eqb, length}
+use Rattle.std.specs.Prelude.{◌≡◌, refl, Bool, true, false, List, ℕ, ◌*◌, ◌^◌, ◌≤◌, ◌<◌, eqb, length, Option, None, Some, option_map}
 use Rattle.std.proofs.Math.Path.{sym, subst}
 use Rattle.std.proofs.Common.{◌∙◌, arith, ne_eqb}
 use Rattle.std.proofs.lemmas.Bool.{false≢true}
-use Rattle.std.proofs.Math.Option.{Option, none, some, map}
 use Rattle.std.proofs.Math.ListN.{get_or-eq_default}
 use Rattle.octets.specs.Pick.{pick, ◌or◌}
 use Rattle.octets.specs.Reading.{provided, or_nothing}
@@ -43,24 +42,24 @@ use Rattle.jcal.proofs.laws.Plain.{date_plain, time_plain, date_time_plain, dura
 
 -- ---- what is read and kept as it stands
 
-module _ {d : List ℕ} {at : ℕ} {t a : Bool} (l : List ℕ) (q : t ≡ a) (h : a ≡ is_unknown l) where
+module _ {d : List ℕ} {at : ℕ} {t : Bool} (l : List ℕ) (h : t ≡ is_unknown l) where
   pub put_unknown_read : {e : List ℕ} {r : ℕ} → t ≡ true → Put d e at r (escaped l) → Put d e at r (or_nothing escaped (read_unknown l))
   unfolding pick
-  put_unknown_read k p = rw (sym h ∙ sym q ∙ k) p
+  put_unknown_read k p = rw (sym h ∙ k) p
 
   pub put_unknown_unread : t ≡ false → length d * 1 < 2 ^ 63 → Put d d at at (or_nothing escaped (read_unknown l))
   unfolding pick
-  put_unknown_unread k z = rw (sym h ∙ sym q ∙ k) (put_none d at z)
+  put_unknown_unread k z = rw (sym h ∙ k) (put_none d at z)
 
-mapped : (g : List ℕ → Value) → ((s : List ℕ) → value_characters (g s) ≡ s) → (o : Option (List ℕ)) → or_nothing escaped o ≡ or_nothing (λ v. escaped (value_characters v)) (map g o)
-mapped g k none = refl
-mapped g k (some s) = rw (k s)
+mapped : (g : List ℕ → Value) → ((s : List ℕ) → value_characters (g s) ≡ s) → (o : Option (List ℕ)) → or_nothing escaped o ≡ or_nothing (λ v. escaped (value_characters v)) (option_map g o)
+mapped g k None = refl
+mapped g k (Some s) = rw (k s)
 
-uri_mapped : (g : List ℕ → Value) → ((s : List ℕ) → value_characters (g s) ≡ s) → (l : List ℕ) → or_nothing as_is (read_uri l) ≡ or_nothing (λ v. escaped (value_characters v)) (map g (read_uri l))
+uri_mapped : (g : List ℕ → Value) → ((s : List ℕ) → value_characters (g s) ≡ s) → (l : List ℕ) → or_nothing as_is (read_uri l) ≡ or_nothing (λ v. escaped (value_characters v)) (option_map g (read_uri l))
 unfolding pick
 uri_mapped g k l = go (is_uri l) refl
   where
-    go : (t : Bool) → is_uri l ≡ t → or_nothing as_is (provided t l) ≡ or_nothing (λ v. escaped (value_characters v)) (map g (provided t l))
+    go : (t : Bool) → is_uri l ≡ t → or_nothing as_is (provided t l) ≡ or_nothing (λ v. escaped (value_characters v)) (option_map g (provided t l))
     go true e = sym (rw (k l) (uri_plain l e))
     go false e = refl
 
@@ -90,7 +89,7 @@ is_free u = eqb (type_place u) 2 or eqb (type_place u) 10 or eqb (type_place u) 
 abbrev Alike : Value → Type 0
 Alike v = entities (value_characters v) ≡ escaped (value_characters v)
 
-alike : (u : ValueType) (l : List ℕ) (v : Value) → is_free u ≡ false → read_value ical u l ≡ some v → Alike v
+alike : (u : ValueType) (l : List ℕ) (v : Value) → is_free u ≡ false → read_value ical u l ≡ Some v → Alike v
 unfolding read_value value_characters entities escaped ◌or◌
 alike BINARY l v m h = made Alike binary (read_binary ical l) v h (λ a e. binary_bare l a e ∙ sym (binary_plain l a e))
 alike BOOLEAN l v m h = made Alike boolean (read_boolean ical l) v h (λ a e. boolean_bare a ∙ sym (boolean_plain a))
@@ -121,8 +120,8 @@ module _ {d e : List ℕ} {o r : ℕ} (t : ℕ) (l : List ℕ) where
   put_other a b c h p = go (read_value ical (type_at t) l) refl p
     where
       go : (u : Option Value) → read_value ical (type_at t) l ≡ u → Put d e o r (or_nothing (λ v. entities (value_characters v)) u) → Put d e o r (or_nothing (λ v. escaped (value_characters v)) u)
-      go none z p = p
-      go (some v) z p = rw (← (alike (type_at t) l v (not_free t a b c h) z)) p
+      go None z p = p
+      go (Some v) z p = rw (← (alike (type_at t) l v (not_free t a b c h) z)) p
 
   -- the type by its number
   pub put_at : (k : ℕ) → t ≡ k → Put d e o r (or_nothing (λ v. escaped (value_characters v)) (read_value ical (type_at k) l)) → Put d e o r (or_nothing (λ v. escaped (value_characters v)) (read_value ical (type_at t) l))

@@ -1,11 +1,10 @@
 -- Laws of what specs/PutPeriod.antt defines.
 --     put_period, put_no_period     it is the array of the period that is read
-use Rattle.std.specs.Prelude.{◌≡◌, Bool, List, [], ◌∷◌, ℕ}
+use Rattle.std.specs.Prelude.{◌≡◌, Bool, List, [], ◌∷◌, ℕ, Option, None, Some}
 use Rattle.std.proofs.Math.Path.{refl}
 use Rattle.std.proofs.Common.{ap, ◌∙◌}
 use Rattle.std.proofs.Math.Bool.{true}
 use Rattle.std.proofs.lemmas.Bool.{false≢true}
-use Rattle.std.proofs.Math.Option.{Option, none, some}
 use Rattle.octets.specs.Ascii.{ascii}
 use Rattle.octets.specs.Append.{◌⊕◌}
 use Rattle.octets.specs.laws.Append.{append_regroup}
@@ -20,8 +19,7 @@ use Rattle.times.specs.Period.{read_period}
 use Rattle.times.specs.laws.Period.{period_accepted}
 use Rattle.times.specs.PeriodAt.{Periods}
 use Rattle.times.specs.PeriodWritten.{of_period, start_xml, end_xml}
-use Rattle.times.specs.declared.period.PeriodRead.{PeriodRead}
-use Rattle.times.specs.declared.period.PeriodRead.TheVariants.{Between, NoPeriod}
+use Rattle.times.specs.declared.period.Period.{Period}
 use Rattle.values.specs.ReadValue.{read_value}
 use Rattle.json_text.specs.Write.{quoted, array_of}
 use Rattle.jcal.specs.WriteJcal.{value_json}
@@ -58,16 +56,16 @@ start_written : (a v : List ℕ) → is_date_time a ≡ true → is_duration v �
 unfolding value_json start_xml end_xml of_period
 start_written a v p q = rw (two_strings (write_date_time xcal a) (write_duration xcal v), moment_plain a p, length_plain v q)
 
-module _ {d e : List ℕ} {o q : ℕ} (l : List ℕ) {m : ℕ} {s : List ℕ} {r : PeriodRead} (p : Periods (read_period l) m s r) where
-  pub put_period : {n k : ℕ} {x : Bool} {c : ℕ} → r ≡ Between n k x c → Put d e o q (period_json l) → Put d e o q (or_nothing value_json (read_value ical PERIOD l))
+module _ {d e : List ℕ} {o q : ℕ} (l : List ℕ) {m : ℕ} {s : List ℕ} {r : Option Period} (p : Periods (read_period l) m s r) where
+  pub put_period : {y : Period} → r ≡ Some y → Put d e o q (period_json l) → Put d e o q (or_nothing value_json (read_value ical PERIOD l))
   unfolding read_value is_read
-  put_period {n} {k} {x} {c} h w = let b = rw h at p in go (read_period l) refl b.good w
+  put_period h w = let b = rw h at p in go (read_period l) refl b.good w
     where
       go : (u : Option Value) → read_period l ≡ u → is_read u ≡ true →
           Put d e o q ((ascii "[\"" ⊕ or_nothing start_xml u ⊕ ascii "\"") ⊕ ascii ",\"" ⊕ or_nothing end_xml u ⊕ ascii "\"]") → Put d e o q (or_nothing value_json u)
-      go none z g w = absurd (false≢true g)
-      go (some v) z g w = rw (period_accepted Written explicit_written start_written l v z) w
+      go None z g w = absurd (false≢true g)
+      go (Some v) z g w = rw (period_accepted Written explicit_written start_written l v z) w
 
-  pub put_no_period : r ≡ NoPeriod → Put d e o q [] → Put d e o q (or_nothing value_json (read_value ical PERIOD l))
+  pub put_no_period : r ≡ None → Put d e o q [] → Put d e o q (or_nothing value_json (read_value ical PERIOD l))
   unfolding read_value
   put_no_period h w = rw (p.is, h) w

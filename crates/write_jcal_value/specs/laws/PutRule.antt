@@ -5,13 +5,11 @@
 --     put_piece, put_cut             a piece, and with what separates it
 --     parts_start, parts_skip, parts_more, parts_end    the loop over the parts
 --     nothing_read                   nothing of what was not read
-use Rattle.std.specs.Prelude.{◌≡◌, refl, Bool, List, [], ◌∷◌, map, ℕ, zero, suc, ◌+◌, ◌-◌, ◌*◌, ◌^◌, ◌≤◌, ◌<◌, eqb, length, take, drop, get_or}
+use Rattle.std.specs.Prelude.{◌≡◌, refl, Bool, List, [], ◌∷◌, map, ℕ, zero, suc, ◌+◌, ◌-◌, ◌*◌, ◌^◌, ◌≤◌, ◌<◌, eqb, length, take, drop, get_or, Option, None, Some, option_map}
 use Rattle.std.proofs.Math.Path.{sym}
 use Rattle.std.proofs.Common.{◌∙◌, subst, arith, add-one, drop_of_length-le, drop-cons}
 use Rattle.std.proofs.Math.Bool.{true, false}
 use Rattle.std.proofs.lemmas.Bool.{false≢true}
-use Rattle.std.proofs.Math.Option
-use Rattle.std.proofs.Math.Option.{Option, none, some}
 use Rattle.std.proofs.Math.ListN.{get_or-map, get_or-eq_default}
 use Rattle.octets.specs.Ascii.{ascii}
 use Rattle.octets.specs.Pick.{pick}
@@ -41,11 +39,9 @@ use Rattle.write_jcal_value.specs.laws.Pieces.{one_piece, more_pieces}
 
 -- ---- whether the items of a part are numbers
 
-pub numbers_at : (p : ℕ) → eqb (get_or (0 ∷ 0 ∷ 1 ∷ 1 ∷ 1 ∷ 1 ∷ 1 ∷ 0 ∷ 1 ∷ 1 ∷ 1 ∷ 1 ∷ 1 ∷ 0 ∷ []) p 0) 1 ≡ has_numbers (part_of (get_or part_names p []))
+pub numbers_at : (p : ℕ) → get_or (false ∷ false ∷ true ∷ true ∷ true ∷ true ∷ true ∷ false ∷ true ∷ true ∷ true ∷ true ∷ true ∷ false ∷ []) p false ≡ has_numbers (part_of (get_or part_names p []))
 unfolding octets_compute
-numbers_at p =
-    sym (get_or-map (λ (x : ℕ). eqb x 1) (0 ∷ 0 ∷ 1 ∷ 1 ∷ 1 ∷ 1 ∷ 1 ∷ 0 ∷ 1 ∷ 1 ∷ 1 ∷ 1 ∷ 1 ∷ 0 ∷ []) p 0)
-    ∙ get_or-map (λ (n : List ℕ). has_numbers (part_of n)) part_names p []
+numbers_at p = get_or-map (λ (n : List ℕ). has_numbers (part_of n)) part_names p []
 
 pub numbers_beyond : (p : ℕ) → 14 ≤ p → false ≡ has_numbers (part_of (get_or part_names p []))
 unfolding octets_compute
@@ -87,7 +83,7 @@ put_cut n started i x y = x ▷ (rw (piece_is i) at y)
 -- ---- the parts in order
 
 next_name : (ns ws : List (List ℕ)) (p : ℕ) → p < length ns →
-    named_shown (drop p ns) ws ≡ with_member (Option.map (piece_shown (get_or ns p [])) (row_of piece_name (get_or ns p []) ws)) (named_shown (drop (p + 1) ns) ws)
+    named_shown (drop p ns) ws ≡ with_member (option_map (piece_shown (get_or ns p [])) (row_of piece_name (get_or ns p []) ws)) (named_shown (drop (p + 1) ns) ws)
 unfolding named_shown
 next_name ns ws p h = rw (add-one, drop-cons ns p [] h)
 
@@ -97,23 +93,19 @@ parts_start ws d at z = listing_start false d at (named_shown part_names ws) z
 abbrev pub left_parts : ℕ → List ℕ → ℕ → ℕ → List (List ℕ)
 left_parts m s c p = named_shown (drop p part_names) (cut_at 59 (rest m s c))
 
-module _ {m : ℕ} {s : List ℕ} {c : ℕ} {t : List ℕ} {d₀ : List ℕ} {at₀ : ℕ} {d : List ℕ} {at : ℕ} {started : Bool} {p : ℕ} (i : Standing m s c t)
+module _ {m : ℕ} {s : List ℕ} {c : ℕ} {t : List (Option ℕ)} {d₀ : List ℕ} {at₀ : ℕ} {d : List ℕ} {at : ℕ} {started : Bool} {p : ℕ} (i : Standing m s c t)
     (w : Listing false (named_shown part_names (cut_at 59 (rest m s c))) d₀ at₀ d at started (left_parts m s c p)) (h : p < 14) where
-  pub parts_skip : get_or t p 0 ≡ 0 → Listing false (named_shown part_names (cut_at 59 (rest m s c))) d₀ at₀ d at started (left_parts m s c (p + 1))
+  pub parts_skip : get_or t p None ≡ None → Listing false (named_shown part_names (cut_at 59 (rest m s c))) d₀ at₀ d at started (left_parts m s c (p + 1))
   parts_skip z = listing_same w _ (next_name part_names (cut_at 59 (rest m s c)) p h ∙ rw (i.is p h, z))
 
-  pub parts_more : {e : List ℕ} {o : ℕ} → (get_or t p 0 ≡ 0 → ⊥) →
-      Put d e at o (separator started ⊕ piece_shown (get_or part_names p []) (up_to (λ x. eqb x 59) (rest m s (get_or t p 0 - 1)))) →
+  pub parts_more : {b : ℕ} {e : List ℕ} {o : ℕ} → get_or t p None ≡ Some b →
+      Put d e at o (separator started ⊕ piece_shown (get_or part_names p []) (up_to (λ x. eqb x 59) (rest m s b))) →
       Listing false (named_shown part_names (cut_at 59 (rest m s c))) d₀ at₀ e o true (left_parts m s c (p + 1))
-  parts_more z x = listing_more w _ _ (next_name part_names (cut_at 59 (rest m s c)) p h ∙ rw (i.is p h, noted (get_or t p 0) z)) x
-    where
-      noted : (b : ℕ) → (b ≡ 0 → ⊥) → piece_from m s b ≡ some (up_to (λ x. eqb x 59) (rest m s (b - 1)))
-      noted zero z = absurd (z refl)
-      noted (suc b) z = let k : suc b - 1 ≡ b = omega arith in rw k
+  parts_more z x = listing_more w _ _ (next_name part_names (cut_at 59 (rest m s c)) p h ∙ rw (i.is p h, z)) x
 
 -- the cursor at a piece
-pub noted_within : {m : ℕ} {s : List ℕ} {c : ℕ} {t : List ℕ} → cuts m ≡ true → Standing m s c t → (p : ℕ) → (get_or t p 0 ≡ 0 → ⊥) → Within m s (get_or t p 0 - 1)
-noted_within y i p h = record { cut = y; most = omega (arith, i.inside p, h) }
+pub noted_within : {m : ℕ} {s : List ℕ} {c : ℕ} {t : List (Option ℕ)} → cuts m ≡ true → Standing m s c t → (p : ℕ) {b : ℕ} → get_or t p None ≡ Some b → Within m s b
+noted_within y i p h = record { cut = y; most = i.inside p _ h }
 
 pub parts_end : (ws : List (List ℕ)) {d₀ : List ℕ} {at₀ : ℕ} {d : List ℕ} {at : ℕ} {started : Bool} {p : ℕ} →
     Listing false (named_shown part_names ws) d₀ at₀ d at started (named_shown (drop p part_names) ws) → 14 ≤ p → Put d₀ d at₀ at (joined_by value_separator (named_shown part_names ws))
@@ -125,5 +117,5 @@ parts_end ws w h = put_first (named_shown part_names ws) (listing_end w (rw (dro
 -- nothing is written where nothing was read
 pub nothing_read : {A : Type 0} (w : A → List ℕ) {d e : List ℕ} {o q : ℕ} (u : Option A) → is_read u ≡ false → Put d e o q [] → Put d e o q (or_nothing w u)
 unfolding is_read
-nothing_read w none h p = p
-nothing_read w (some v) h p = absurd (false≢true (sym h))
+nothing_read w None h p = p
+nothing_read w (Some v) h p = absurd (false≢true (sym h))

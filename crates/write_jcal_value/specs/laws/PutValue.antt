@@ -2,12 +2,11 @@
 --     put_recur, put_no_recur     RECUR
 --     put_plain, put_no_plain     a type that has characters
 --     put_at                      the type by its number
-use Rattle.std.specs.Prelude.{◌≡◌, Bool, List, [], ℕ, ◌≤◌, eqb}
+use Rattle.std.specs.Prelude.{◌≡◌, Bool, List, [], ℕ, ◌≤◌, eqb, Option, None, Some, option_map, is_some}
 use Rattle.std.proofs.Math.Path.{refl, ap}
 use Rattle.std.proofs.Common.{sym, ◌∙◌, arith, ne_eqb}
 use Rattle.std.proofs.Math.Bool.{true, false}
 use Rattle.std.proofs.lemmas.Bool.{false≢true}
-use Rattle.std.proofs.Math.Option.{Option, none, some, map}
 use Rattle.std.proofs.Math.Decide.{dec_le}
 use Rattle.std.proofs.Math.ListN.{get_or-eq_default}
 use Rattle.octets.specs.Pick.{pick, ◌or◌}
@@ -35,13 +34,9 @@ use Rattle.texts.specs.Unknown.{read_unknown}
 use Rattle.recur.specs.Parts.{part_names}
 use Rattle.recur.specs.Rule.{read_rule}
 use Rattle.recur.specs.Noted.{Parted}
-use Rattle.recur.specs.declared.rule.RuleParts.{RuleParts}
 use Rattle.values.specs.ReadValue.{read_value}
 use Rattle.values.specs.WriteValue.{value_characters}
 use Rattle.values.specs.laws.ReadBack.{made}
-use Rattle.values.specs.laws.ValueAt.{is_good}
-use Rattle.values.specs.declared.ValueRead.{ValueRead}
-use Rattle.values.specs.declared.ValueRead.TheVariants as value
 use Rattle.json_text.specs.Write.{escaped, object_of}
 use Rattle.jcal.specs.WriteJcal.{value_json}
 use Rattle.jcal.proofs.laws.Plain.{boolean_plain, float_plain, integer_plain}
@@ -52,22 +47,22 @@ use Rattle.write_jcal_value.specs.laws.PutRule.{nothing_read}
 
 -- ---- RECUR
 
-module _ {d e : List ℕ} {o q : ℕ} {m : ℕ} {s : List ℕ} {c : ℕ} {r : RuleParts} (p : Parted m s c r) where
-  pub put_recur : r.good ≡ true → Put d e o q (object_of (named_shown part_names (cut_at 59 (rest m s c)))) → Put d e o q (or_nothing value_json (read_value ical RECUR (rest m s c)))
+module _ {d e : List ℕ} {o q : ℕ} {m : ℕ} {s : List ℕ} {c : ℕ} {r : Option (List (Option ℕ))} (p : Parted m s c r) where
+  pub put_recur : {t : List (Option ℕ)} → r ≡ Some t → Put d e o q (object_of (named_shown part_names (cut_at 59 (rest m s c)))) → Put d e o q (or_nothing value_json (read_value ical RECUR (rest m s c)))
   unfolding read_value value_json is_read
-  put_recur h w = go (read_rule (rest m s c)) refl (p.is ∙ h)
+  put_recur h w = go (read_rule (rest m s c)) refl (p.is ∙ ap is_some h)
     where
-      go : (u : Option (List RulePart)) → read_rule (rest m s c) ≡ u → is_read u ≡ true → Put d e o q (or_nothing value_json (map recur u))
-      go none k z = absurd (false≢true z)
-      go (some v) k z = rw (rule_json (rest m s c) v k) w
+      go : (u : Option (List RulePart)) → read_rule (rest m s c) ≡ u → is_read u ≡ true → Put d e o q (or_nothing value_json (option_map recur u))
+      go None k z = absurd (false≢true z)
+      go (Some v) k z = rw (rule_json (rest m s c) v k) w
 
-  pub put_no_recur : r.good ≡ false → Put d e o q [] → Put d e o q (or_nothing value_json (read_value ical RECUR (rest m s c)))
+  pub put_no_recur : r ≡ None → Put d e o q [] → Put d e o q (or_nothing value_json (read_value ical RECUR (rest m s c)))
   unfolding read_value is_read
-  put_no_recur h w = go (read_rule (rest m s c)) (p.is ∙ h)
+  put_no_recur h w = go (read_rule (rest m s c)) (p.is ∙ ap is_some h)
     where
-      go : (u : Option (List RulePart)) → is_read u ≡ false → Put d e o q (or_nothing value_json (map recur u))
-      go none z = w
-      go (some v) z = absurd (false≢true (sym z))
+      go : (u : Option (List RulePart)) → is_read u ≡ false → Put d e o q (or_nothing value_json (option_map recur u))
+      go None z = w
+      go (Some v) z = absurd (false≢true (sym z))
 
 -- ---- a type that has characters
 
@@ -79,7 +74,7 @@ is_made u = eqb (type_place u) 8 or eqb (type_place u) 9
 abbrev Shows : Bool → Value → Type 0
 Shows bare v = value_json v ≡ plain_json bare (escaped (value_characters v))
 
-plain : (u : ValueType) (l : List ℕ) (v : Value) → is_made u ≡ false → read_value ical u l ≡ some v → Shows (stands_bare (type_place u)) v
+plain : (u : ValueType) (l : List ℕ) (v : Value) → is_made u ≡ false → read_value ical u l ≡ Some v → Shows (stands_bare (type_place u)) v
 unfolding read_value value_json value_characters pick ◌or◌
 plain BINARY l v m h = made (Shows false) binary (read_binary ical l) v h (λ a e. refl)
 plain BOOLEAN l v m h = made (Shows true) boolean (read_boolean ical l) v h (λ a e. sym (boolean_plain a))
@@ -113,18 +108,18 @@ bare_place t = go (dec_le 14 t)
     go (yes h) = rw (get_or-eq_default value_types UNKNOWN h, ne_eqb t 1 (λ e. omega arith), ne_eqb t 6 (λ e. omega arith), ne_eqb t 7 (λ e. omega arith))
     go (no h) = rw (type_back t (omega arith))
 
-module _ {d e : List ℕ} {o q : ℕ} (t : ℕ) (l : List ℕ) {r : ValueRead} (p : is_read (read_value ical (type_at t) l) ≡ is_good r) where
-  pub put_plain : {k : ℕ} → (t ≡ 8 → ⊥) → (t ≡ 9 → ⊥) → r ≡ value.Good k →
+module _ {d e : List ℕ} {o q : ℕ} (t : ℕ) (l : List ℕ) {r : Option ℕ} (p : is_read (read_value ical (type_at t) l) ≡ is_some r) where
+  pub put_plain : {k : ℕ} → (t ≡ 8 → ⊥) → (t ≡ 9 → ⊥) → r ≡ Some k →
       Put d e o q (plain_json (stands_bare t) (or_nothing (λ v. escaped (value_characters v)) (read_value ical (type_at t) l))) → Put d e o q (or_nothing value_json (read_value ical (type_at t) l))
   unfolding is_read
-  put_plain a b h w = go (read_value ical (type_at t) l) refl (p ∙ ap is_good h) w
+  put_plain a b h w = go (read_value ical (type_at t) l) refl (p ∙ ap is_some h) w
     where
       go : (u : Option Value) → read_value ical (type_at t) l ≡ u → is_read u ≡ true → Put d e o q (plain_json (stands_bare t) (or_nothing (λ v. escaped (value_characters v)) u)) → Put d e o q (or_nothing value_json u)
-      go none k z w = absurd (false≢true z)
-      go (some v) k z w = rw (plain (type_at t) l v (not_made t a b) k, bare_place t) w
+      go None k z w = absurd (false≢true z)
+      go (Some v) k z w = rw (plain (type_at t) l v (not_made t a b) k, bare_place t) w
 
-  pub put_no_plain : r ≡ value.Bad → Put d e o q [] → Put d e o q (or_nothing value_json (read_value ical (type_at t) l))
-  put_no_plain h w = nothing_read value_json (read_value ical (type_at t) l) (p ∙ ap is_good h) w
+  pub put_no_plain : r ≡ None → Put d e o q [] → Put d e o q (or_nothing value_json (read_value ical (type_at t) l))
+  put_no_plain h w = nothing_read value_json (read_value ical (type_at t) l) (p ∙ ap is_some h) w
 
 -- ---- the type by its number
 

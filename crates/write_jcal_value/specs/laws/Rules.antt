@@ -1,10 +1,8 @@
 -- Laws of what specs/Rules.antt defines.
 --     rule_json            they are the members of the rule that is read
-use Rattle.std.specs.Prelude.{◌≡◌, refl, Bool, true, false, List, [], ◌∷◌, map, ℕ}
+use Rattle.std.specs.Prelude.{◌≡◌, refl, Bool, true, false, List, [], ◌∷◌, map, ℕ, Option, None, Some, option_map}
 use Rattle.std.proofs.Common.{sym, ap, ◌∙◌}
 use Rattle.std.proofs.lemmas.Bool.{false≢true}
-use Rattle.std.proofs.Math.Option
-use Rattle.std.proofs.Math.Option.{Option, none, some}
 use Rattle.octets.specs.Ascii.{ascii}
 use Rattle.octets.specs.Pick.{pick, ◌and◌}
 use Rattle.octets.specs.Append.{◌⊕◌}
@@ -61,10 +59,10 @@ form_json weekdaynum (word w) h e = absurd (false≢true h)
 form_json weekdaynum (weekday o d) h e = quoted_plain (write_item xcal (weekday o d)) e
 
 item_for : (o : Option Part) (i : RuleItem) → is_for o i ≡ true → escaped (write_item xcal i) ≡ write_item xcal i → item_json i ≡ plain_json (has_numbers o) (write_item xcal i)
-item_for none i h e = absurd (false≢true h)
-item_for (some r) i h e = form_json r.form i h e
+item_for None i h e = absurd (false≢true h)
+item_for (Some r) i h e = form_json r.form i h e
 
-item_json_lem : (n w : List ℕ) (i : RuleItem) → read_item ical n w ≡ some i → item_json i ≡ item_shown n w
+item_json_lem : (n w : List ℕ) (i : RuleItem) → read_item ical n w ≡ Some i → item_json i ≡ item_shown n w
 unfolding is_read
 item_json_lem n w i h =
     let a = item_accepted ical n w i h in
@@ -73,20 +71,20 @@ item_json_lem n w i h =
 
 -- ---- a part
 
-items_json : (n : List ℕ) (ws : List (List ℕ)) (is : List RuleItem) → read_each (read_item ical n) ws ≡ some is → map item_json is ≡ map (item_shown n) ws
+items_json : (n : List ℕ) (ws : List (List ℕ)) (is : List RuleItem) → read_each (read_item ical n) ws ≡ Some is → map item_json is ≡ map (item_shown n) ws
 items_json n ws is h = sym (each_written (read_item ical n) (item_shown n) item_json (λ w i e. sym (item_json_lem n w i e)) ws is h)
 
-part_json_lem : (w : List ℕ) (p : RulePart) → read_part w ≡ some p → (p.part ≡ piece_name w) × (part_json p ≡ piece_shown (piece_name w) w)
+part_json_lem : (w : List ℕ) (p : RulePart) → read_part w ≡ Some p → (p.part ≡ piece_name w) × (part_json p ≡ piece_shown (piece_name w) w)
 unfolding piece_shown items_shown
 part_json_lem w p h =
     let n = piece_name w in
-    let e = and_then-some (read_each (read_item ical n) (items_of n (past is_equals w))) (λ is. some (rule_part n is)) p h in
+    let e = and_then-some (read_each (read_item ical n) (items_of n (past is_equals w))) (λ is. Some (rule_part n is)) p h in
     let z : rule_part n e.0 ≡ p = cc e.2 in
     rw (← z) (refl, rw (items_json n (items_of n (past is_equals w)) e.0 e.1))
 
 -- ---- the parts in order
 
-named_json : (n : List ℕ) (ws : List (List ℕ)) (ps : List RulePart) → read_each read_part ws ≡ some ps → Option.map part_json (part_named n ps) ≡ Option.map (piece_shown n) (row_of piece_name n ws)
+named_json : (n : List ℕ) (ws : List (List ℕ)) (ps : List RulePart) → read_each read_part ws ≡ Some ps → option_map part_json (part_named n ps) ≡ option_map (piece_shown n) (row_of piece_name n ws)
 unfolding read_each row_of pick
 named_json n [] ps h = let z : [] ≡ ps = cc in rw (← z)
 named_json n (w ∷ ws) ps h =
@@ -95,22 +93,22 @@ named_json n (w ∷ ws) ps h =
     let g = part_json_lem w e.0 e.1 in
     rw (← f.2, g.0) (go e.0 f.0 g.1 (named_json n ws f.0 f.1) (same n (piece_name w)) refl)
   where
-    go : (p : RulePart) (l : List RulePart) → part_json p ≡ piece_shown (piece_name w) w → Option.map part_json (part_named n l) ≡ Option.map (piece_shown n) (row_of piece_name n ws) →
-        (t : Bool) → same n (piece_name w) ≡ t → Option.map part_json (pick t (some p) (part_named n l)) ≡ Option.map (piece_shown n) (pick t (some w) (row_of piece_name n ws))
-    go p l g ih true e = ap some (g ∙ ap (λ (x : List ℕ). piece_shown x w) (sym (same_true n (piece_name w) e)))
+    go : (p : RulePart) (l : List RulePart) → part_json p ≡ piece_shown (piece_name w) w → option_map part_json (part_named n l) ≡ option_map (piece_shown n) (row_of piece_name n ws) →
+        (t : Bool) → same n (piece_name w) ≡ t → option_map part_json (pick t (Some p) (part_named n l)) ≡ option_map (piece_shown n) (pick t (Some w) (row_of piece_name n ws))
+    go p l g ih true e = ap Some (g ∙ ap (λ (x : List ℕ). piece_shown x w) (sym (same_true n (piece_name w) e)))
     go p l g ih false e = ih
 
-with_json : (o : Option RulePart) (l : List RulePart) → map part_json (with_part o l) ≡ with_member (Option.map part_json o) (map part_json l)
+with_json : (o : Option RulePart) (l : List RulePart) → map part_json (with_part o l) ≡ with_member (option_map part_json o) (map part_json l)
 unfolding with_part
-with_json none l = refl
-with_json (some p) l = refl
+with_json None l = refl
+with_json (Some p) l = refl
 
-order_json : (ns ws : List (List ℕ)) (ps : List RulePart) → read_each read_part ws ≡ some ps → map part_json (in_order ns ps) ≡ named_shown ns ws
+order_json : (ns ws : List (List ℕ)) (ps : List RulePart) → read_each read_part ws ≡ Some ps → map part_json (in_order ns ps) ≡ named_shown ns ws
 unfolding in_order named_shown
 order_json [] ws ps h = refl
 order_json (n ∷ ns) ws ps h = with_json (part_named n ps) (in_order ns ps) ∙ rw (named_json n ws ps h, order_json ns ws ps h)
 
-pub rule_json : (s : List ℕ) (r : List RulePart) → read_rule s ≡ some r → map part_json r ≡ named_shown part_names (cut_at 59 s)
+pub rule_json : (s : List ℕ) (r : List RulePart) → read_rule s ≡ Some r → map part_json r ≡ named_shown part_names (cut_at 59 s)
 rule_json s r h =
     let e = and_then-some (read_each read_part (cut_at 59 s)) ruled r h in
     let ps = e.0 in

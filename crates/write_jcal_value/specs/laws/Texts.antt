@@ -2,12 +2,11 @@
 --     strings_quoted, text_alone    of texts that are read it is their strings
 --     writing_strings               the ways that the loop goes on and ends, for `search`
 --     put_strings, put_text, put_unread    what was written, from what was read
-use Rattle.std.specs.Prelude.{◌≡◌, Bool, List, [], ◌∷◌, map, ℕ, ◌*◌, ◌^◌, ◌<◌, eqb, length}
+use Rattle.std.specs.Prelude.{◌≡◌, Bool, List, [], ◌∷◌, map, ℕ, ◌*◌, ◌^◌, ◌<◌, eqb, length, Option, None, Some}
 use Rattle.std.proofs.Math.Path.{refl}
 use Rattle.std.proofs.Common.{sym, ap, ◌∙◌}
 use Rattle.std.proofs.Math.Bool.{true, false}
 use Rattle.std.proofs.lemmas.Bool.{false≢true, not-true}
-use Rattle.std.proofs.Math.Option.{Option, none, some}
 use Rattle.octets.specs.Ascii.{ascii}
 use Rattle.octets.specs.Pick.{pick, ◌or◌}
 use Rattle.octets.specs.Append.{◌⊕◌}
@@ -78,10 +77,10 @@ unfolding inner between escaped ◌⊕◌
 inner_after [] h = absurd (false≢true (sym h))
 inner_after (p ∷ ps) h = refl
 
-filled_some : (after : Bool) (c : ℕ) (s : List ℕ) (ps : List (List ℕ)) → split_from after c s ≡ some ps → is_empty ps ≡ false
+filled_some : (after : Bool) (c : ℕ) (s : List ℕ) (ps : List (List ℕ)) → split_from after c s ≡ Some ps → is_empty ps ≡ false
 filled_some after c s ps h = not-true (is_empty ps) (rw h at (split_filled s after c))
 
-split_inner : (s : List ℕ) (after : Bool) (c : ℕ) (ts : List (List ℕ)) → split_from after c s ≡ some ts → strings_from after s ≡ inner ts
+split_inner : (s : List ℕ) (after : Bool) (c : ℕ) (ts : List (List ℕ)) → split_from after c s ≡ Some ts → strings_from after s ≡ inner ts
 unfolding split_from onto_read strings_from inner between escaped pick ◌⊕◌
 split_inner [] true c ts h = none-some h
 split_inner [] false c ts h = let z : [] ∷ [] ≡ ts = cc in rw (← z)
@@ -91,16 +90,16 @@ split_inner (b ∷ s) after c ts h =
     rests : List ℕ
     rests = strings_from (opens after b) s
 
-    go : (g : Sign) → (is_fault g ≡ false → byte_json after b ≡ sign_json g) → (o : Option (List (List ℕ))) → split_from (opens after b) c s ≡ o → with_sign g o ≡ some ts →
-        ((ps : List (List ℕ)) → o ≡ some ps → rests ≡ inner ps) → byte_json after b ⊕ rests ≡ inner ts
+    go : (g : Sign) → (is_fault g ≡ false → byte_json after b ≡ sign_json g) → (o : Option (List (List ℕ))) → split_from (opens after b) c s ≡ o → with_sign g o ≡ Some ts →
+        ((ps : List (List ℕ)) → o ≡ Some ps → rests ≡ inner ps) → byte_json after b ⊕ rests ≡ inner ts
     go fault f o e k ih = none-some k
     go opening f o e k ih = rw (f refl) (ih ts k)
     go separator f o e k ih =
         let q = cons_read-some [] o ts k in
         ap (λ (l : List ℕ). l ⊕ rests) (f refl) ∙ ap (λ (l : List ℕ). ascii "\",\"" ⊕ l) (ih q.0 q.1)
         ∙ sym (inner_after q.0 (filled_some (opens after b) c s q.0 (e ∙ q.1))) ∙ ap inner q.2
-    go (char x) f none e k ih = none-some k
-    go (char x) f (some ps) e k ih =
+    go (char x) f None e k ih = none-some k
+    go (char x) f (Some ps) e k ih =
         let z : onto x ps ≡ ts = cc in
         ap (λ (l : List ℕ). l ⊕ rests) (f refl) ∙ ap (λ (l : List ℕ). escaped_byte x ⊕ l) (ih ps refl) ∙ sym (inner-onto x ps) ∙ ap inner z
 
@@ -133,16 +132,16 @@ inner_quoted (t ∷ ts) h =
     rest : List ℕ
     rest = each_after value_separator (map quoted ts)
 
-pub strings_quoted : (c : ℕ) (l : List ℕ) (ts : List (List ℕ)) → split_text c l ≡ some ts → ascii "\"" ⊕ strings_from false l ⊕ ascii "\"" ≡ strings_of ts
+pub strings_quoted : (c : ℕ) (l : List ℕ) (ts : List (List ℕ)) → split_text c l ≡ Some ts → ascii "\"" ⊕ strings_from false l ⊕ ascii "\"" ≡ strings_of ts
 strings_quoted c l ts h = rw (split_inner l false c ts h) (inner_quoted ts (filled_some false c l ts h))
 
-pub text_alone : (l t : List ℕ) → read_text l ≡ some t → strings_from false l ≡ escaped t
+pub text_alone : (l t : List ℕ) → read_text l ≡ Some t → strings_from false l ≡ escaped t
 unfolding inner between
 text_alone l t h =
     let q = and_then-some (split_text 0 l) alone t h in
     split_inner l false 0 q.0 q.1 ∙ go q.0 q.2
   where
-    go : (ps : List (List ℕ)) → alone ps ≡ some t → inner ps ≡ escaped t
+    go : (ps : List (List ℕ)) → alone ps ≡ Some t → inner ps ≡ escaped t
     go [] k = none-some k
     go (p ∷ []) k = let z : p ≡ t = cc in rw z (append_none (escaped t))
     go (p ∷ q ∷ ps) k = none-some k
@@ -164,37 +163,37 @@ pub ruleset writing_strings = (strings_more, strings_end, writing)
 
 -- ---- what was read, written
 
-module _ {d : List ℕ} {at : ℕ} {t a : Bool} (c : ℕ) (l : List ℕ) (q : t ≡ a) (h : a ≡ is_read (split_text c l)) where
+module _ {d : List ℕ} {at : ℕ} {t : Bool} (c : ℕ) (l : List ℕ) (h : t ≡ is_read (split_text c l)) where
   pub put_strings : {e : List ℕ} {r : ℕ} → t ≡ true → Put d e at r (ascii "\"" ⊕ strings_from false l ⊕ ascii "\"") → Put d e at r (or_nothing strings_of (split_text c l))
   unfolding is_read
-  put_strings {e} {r} k p = go (split_text c l) refl (sym k ∙ q ∙ h)
+  put_strings {e} {r} k p = go (split_text c l) refl (sym k ∙ h)
     where
       go : (o : Option (List (List ℕ))) → split_text c l ≡ o → true ≡ is_read o → Put d e at r (or_nothing strings_of o)
-      go none z x = absurd (false≢true (sym x))
-      go (some ts) z x = rw (← (strings_quoted c l ts z)) p
+      go None z x = absurd (false≢true (sym x))
+      go (Some ts) z x = rw (← (strings_quoted c l ts z)) p
 
   pub put_no_strings : t ≡ false → length d * 1 < 2 ^ 63 → Put d d at at (or_nothing strings_of (split_text c l))
   unfolding is_read
-  put_no_strings k z = go (split_text c l) (sym k ∙ q ∙ h)
+  put_no_strings k z = go (split_text c l) (sym k ∙ h)
     where
       go : (o : Option (List (List ℕ))) → false ≡ is_read o → Put d d at at (or_nothing strings_of o)
-      go none x = put_none d at z
-      go (some v) x = absurd (false≢true x)
+      go None x = put_none d at z
+      go (Some v) x = absurd (false≢true x)
 
 -- characters that were read, or nothing
-module _ {d : List ℕ} {at : ℕ} {t a : Bool} (o : Option (List ℕ)) (q : t ≡ a) (h : a ≡ is_read o) where
-  pub put_read : {e : List ℕ} {r : ℕ} (bs : List ℕ) → ((v : List ℕ) → o ≡ some v → bs ≡ escaped v) → t ≡ true → Put d e at r bs → Put d e at r (or_nothing escaped o)
+module _ {d : List ℕ} {at : ℕ} {t : Bool} (o : Option (List ℕ)) (h : t ≡ is_read o) where
+  pub put_read : {e : List ℕ} {r : ℕ} (bs : List ℕ) → ((v : List ℕ) → o ≡ Some v → bs ≡ escaped v) → t ≡ true → Put d e at r bs → Put d e at r (or_nothing escaped o)
   unfolding is_read
-  put_read {e} {r} bs f k p = go o refl (sym k ∙ q ∙ h)
+  put_read {e} {r} bs f k p = go o refl (sym k ∙ h)
     where
       go : (u : Option (List ℕ)) → o ≡ u → true ≡ is_read u → Put d e at r (or_nothing escaped u)
-      go none z x = absurd (false≢true (sym x))
-      go (some v) z x = rw (← (f v z)) p
+      go None z x = absurd (false≢true (sym x))
+      go (Some v) z x = rw (← (f v z)) p
 
   pub put_unread : t ≡ false → length d * 1 < 2 ^ 63 → Put d d at at (or_nothing escaped o)
   unfolding is_read
-  put_unread k z = go o (sym k ∙ q ∙ h)
+  put_unread k z = go o (sym k ∙ h)
     where
       go : (u : Option (List ℕ)) → false ≡ is_read u → Put d d at at (or_nothing escaped u)
-      go none x = put_none d at z
-      go (some v) x = absurd (false≢true x)
+      go None x = put_none d at z
+      go (Some v) x = absurd (false≢true x)

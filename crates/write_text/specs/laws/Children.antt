@@ -13,7 +13,7 @@ use Rattle.read_xml_nodes.specs.HeadFound.{HeadAt, NodeEnded}
 use Rattle.read_xml_nodes.specs.laws.HeadFound.{head_none, head_element, head_whole, head_onward, end_less, head_literal, head_literal_less, head_referred, head_referred_less, head_less}
 use Rattle.read_xml_nodes.specs.declared.Ended.{Ended}
 use Rattle.read_xml_nodes.specs.declared.Head.{Head}
-use Rattle.read_xml_nodes.specs.declared.NodeKind.TheVariants.{None, Element, Literal, Referred}
+use Rattle.read_xml_nodes.specs.declared.NodeKind.TheVariants.{Absent, Element, Literal, Referred}
 use Rattle.write_text.specs.Children.{name_in, InsideAt}
 
 -- it is the same from here on
@@ -25,7 +25,7 @@ pub seeking_start : (w s : List ℕ) (from : ℕ) → Seeking w s from from
 seeking_start w s from = record { is = refl; onward = omega arith }
 
 module _ {w s : List ℕ} {from at : ℕ} {r : Head} (p : Seeking w s from at) (n : HeadAt s at r) where
-  pub seeking_none : r.kind ≡ None → InsideAt w s from (length s)
+  pub seeking_none : r.kind ≡ Absent → InsideAt w s from (length s)
   unfolding inside_of
   seeking_none q = record { is = p.is ∙ ap (inside_of w) (head_none n q) ∙ sym (nodes_none s (length s) (omega arith)); within = omega arith; onward = omega arith }
 

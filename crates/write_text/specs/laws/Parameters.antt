@@ -1,10 +1,9 @@
 -- Laws of what specs/Parameters.antt defines.
 --     Sought          the invariant of the loop over the children;   `search sought`
 --     geo_at, status_at    GEO and REQUEST-STATUS by their numbers
-use Rattle.std.specs.Prelude.{◌≡◌, Bool, true, false, not, List, [], ◌∷◌, ◌++◌, map, ℕ, suc, leb, length}
+use Rattle.std.specs.Prelude.{◌≡◌, Bool, true, false, not, List, [], ◌∷◌, ◌++◌, map, ℕ, suc, leb, length, Some}
 use Rattle.std.proofs.Math.Path.{refl, sym, ap}
 use Rattle.std.proofs.Common.{◌∙◌, rules}
-use Rattle.std.proofs.Math.Option.{some}
 use native.Mathlib.Omega.{arith}
 use Rattle.std.proofs.Math.Dec.{eqb, ltb}
 use borrow.Author.Tests.{ne_eqb, le-leb, lt-leb, ltb-true, ltb-false}
@@ -31,7 +30,7 @@ use Rattle.read_xml_nodes.specs.HeadFound.{HeadAt, NodeEnded}
 use Rattle.read_xml_nodes.specs.laws.HeadFound.{head_none, head_element, head_whole, head_literal, head_referred, head_less}
 use Rattle.read_xml_nodes.specs.declared.Ended.{Ended}
 use Rattle.read_xml_nodes.specs.declared.Head.{Head}
-use Rattle.read_xml_nodes.specs.declared.NodeKind.TheVariants.{None, Element, Literal, Referred}
+use Rattle.read_xml_nodes.specs.declared.NodeKind.TheVariants.{Absent, Element, Literal, Referred}
 use Rattle.write_text.specs.Children.{name_in}
 use Rattle.write_text.specs.Parameters.{value_names, ParametersAt}
 
@@ -57,7 +56,7 @@ before_all m [] k = refl
 before_all m (s ∷ ss) k = go (is_one_of m s.names) (before_all m ss (suc k)) ∙ ap not (sym (one_of_both m s.names (slot_names ss)))
   where
     go : (t : Bool) → still_before (slot_of m ss (suc k)) ≡ not (is_one_of m (slot_names ss)) →
-        still_before (pick t (some (k, s.several)) (slot_of m ss (suc k))) ≡ not (t or is_one_of m (slot_names ss))
+        still_before (pick t (Some (k, s.several)) (slot_of m ss (suc k))) ≡ not (t or is_one_of m (slot_names ss))
     go true ih = refl
     go false ih = ih
 
@@ -94,7 +93,7 @@ pub sought_start : (p : ℕ) (s : List ℕ) (from : ℕ) → Sought p s from fro
 sought_start p s from = record { is = λ w e. refl }
 
 module _ {p : ℕ} {s : List ℕ} {from at : ℕ} {r : Head} (k : Sought p s from at) (n : HeadAt s at r) where
-  pub sought_none : r.kind ≡ None → ParametersAt p s from (length s)
+  pub sought_none : r.kind ≡ Absent → ParametersAt p s from (length s)
   unfolding parameters_in
   sought_none q = record { is = λ w e. k.is w e ∙ ap (parameters_in w) (head_none n q) ∙ sym (nodes_none s (length s) (omega arith)); within = omega arith }
 

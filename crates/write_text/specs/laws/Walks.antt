@@ -25,7 +25,7 @@ use Rattle.xml.specs.NodesAt.{nodes_at}
 use Rattle.read_xml_nodes.specs.NodeFound.{NodeAt}
 use Rattle.read_xml_nodes.specs.laws.NodeFound.{node_none, node_element, node_literal, node_referred, element_less, literal_less, referred_less}
 use Rattle.read_xml_nodes.specs.declared.Node.{Node}
-use Rattle.read_xml_nodes.specs.declared.NodeKind.TheVariants.{None, Element, Literal, Referred}
+use Rattle.read_xml_nodes.specs.declared.NodeKind.TheVariants.{Absent, Element, Literal, Referred}
 use Rattle.edition.specs.declared.Edition.{Edition}
 use Rattle.write_text_pieces.specs.Filled.{properties_room, calendar_room, PutBy}
 use Rattle.write_text.specs.Children.{InsideAt, name_in}
@@ -173,7 +173,7 @@ module _ (ed : Edition) where
         left = m.left ∙ ap (λ (x : Nodes). (room_of ed) w x l) i ∙ z;
       }
 
-      walk_end : r.kind ≡ None → PutBy d e o p (text_of ed w (nodes_at s from)) l (room_of ed w (nodes_at s from) k)
+      walk_end : r.kind ≡ Absent → PutBy d e o p (text_of ed w (nodes_at s from)) l (room_of ed w (nodes_at s from) k)
       walk_end q = record {
         put = todo_done m.todo (ap (text_of ed w) (node_none n q) ∙ text_none w);
         room = sym (m.left ∙ ap (λ (x : Nodes). (room_of ed) w x l) (node_none n q) ∙ room_none w l);
@@ -182,7 +182,7 @@ module _ (ed : Edition) where
   -- ---- the properties
 
   module _ {s : List ℕ} {from : ℕ} {d : List ℕ} {o : ℕ} {k e : List ℕ} {p : ℕ} {l : List ℕ} {at : ℕ} (m : Walking ed own s from d o k e p l at) {r : Node} (n : NodeAt s at r) where
-    pub own_end : r.kind ≡ None → PutBy d e o p (property_lines ed (read_properties (nodes_at s from))) l (properties_room ed (read_properties (nodes_at s from)) k)
+    pub own_end : r.kind ≡ Absent → PutBy d e o p (property_lines ed (read_properties (nodes_at s from))) l (properties_room ed (read_properties (nodes_at s from)) k)
     unfolding properties_text room_of
     own_end q = walk_end m n q
 
@@ -205,7 +205,7 @@ module _ (ed : Edition) where
       rw (q, shallow_none (read_components (nodes_at s from))) (record { put = put_none d o z; room = refl })
 
   module _ {v : ℕ} {s : List ℕ} {from : ℕ} {d : List ℕ} {o : ℕ} {k e : List ℕ} {p : ℕ} {l : List ℕ} {at : ℕ} (m : Walking ed (inner v) s from d o k e p l at) {r : Node} (n : NodeAt s at r) where
-    pub inner_end : r.kind ≡ None → PutBy d e o p (write_calendar ed (shallow v (read_components (nodes_at s from)))) l (calendar_room ed (shallow v (read_components (nodes_at s from))) k)
+    pub inner_end : r.kind ≡ Absent → PutBy d e o p (write_calendar ed (shallow v (read_components (nodes_at s from)))) l (calendar_room ed (shallow v (read_components (nodes_at s from))) k)
     unfolding calendar_text room_of
     inner_end q = walk_end m n q
 

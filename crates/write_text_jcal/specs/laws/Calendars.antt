@@ -1,11 +1,10 @@
 -- Laws of the calendars of a text.
 --     stream_is       whether it is a stream
 --     alone_..        one calendar;   calendars_stream, calendars_alone: the ways of `put_calendars`
-use Rattle.std.specs.Prelude.{◌≡◌, Bool, true, false, ℕ, zero, suc, ◌+◌, ◌-◌, ◌≤◌, length, drop}
+use Rattle.std.specs.Prelude.{◌≡◌, Bool, true, false, ℕ, zero, suc, ◌+◌, ◌-◌, ◌≤◌, length, drop, Option, None, Some}
 use Rattle.std.proofs.Math.Path.{refl, sym, ap, subst}
 use Rattle.std.proofs.Common.{◌∙◌, arith}
 use mathlib.Core.List.{List, []}
-use Rattle.std.proofs.Math.Option.{Option, none, some}
 use Rattle.octets.specs.Pick.{pick}
 use Rattle.octets.specs.Ascii.{ascii}
 use Rattle.octets.specs.Append.{◌⊕◌}
@@ -24,7 +23,7 @@ use Rattle.read_json.specs.Heads.{value_by, HeadAt}
 use Rattle.read_json.specs.Kinds.{is_array}
 use Rattle.read_json.specs.declared.Head.{Head}
 use Rattle.read_json.specs.declared.HeadKind.{HeadKind}
-use Rattle.read_json.specs.declared.HeadKind.TheVariants.{None, String, Number, Literal, Array, Object}
+use Rattle.read_json.specs.declared.HeadKind.TheVariants.{Absent, String, Number, Literal, Array, Object}
 use Rattle.edition.specs.declared.Edition.{Edition}
 use Rattle.write_text_pieces.specs.Filled.{calendar_room, PutBy}
 use Rattle.write_text_jcal_values.specs.Elements.{list_at, without}
@@ -39,7 +38,7 @@ use Rattle.write_text_jcal.specs.laws.Walks.{array_list, inside_is, inner_is, sh
 
 array_kind : (k : HeadKind) (s : List ℕ) (p n : ℕ) → is_array k ≡ is_read (as_array (value_by k s p n))
 unfolding is_read
-array_kind None s p n = refl
+array_kind Absent s p n = refl
 array_kind String s p n = refl
 array_kind Number s p n = refl
 array_kind Literal s p n = refl

@@ -1,11 +1,10 @@
 -- Laws of what specs/Content.antt defines.
 --     parameters_put, values_put, end_put, line_put    from what was put
 --     component_place                                  the number of the name of a number
-use Rattle.std.specs.Prelude.{◌≡◌, refl, Bool}
+use Rattle.std.specs.Prelude.{◌≡◌, refl, Bool, Option}
 use Rattle.std.proofs.Math.Path.{sym, ap, subst}
 use Rattle.std.proofs.Common.{◌∙◌, arith}
 use mathlib.Core.List.{List, [], ◌∷◌, map}
-use Rattle.std.proofs.Math.Option.{Option}
 use Prim.Native.Nat.{ℕ, zero, suc, ◌≤◌, ◌<◌}
 use Rattle.std.proofs.Math.Decide.{dec_le}
 use Rattle.octets.specs.Ascii.{ascii}

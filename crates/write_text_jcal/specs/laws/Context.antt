@@ -1,11 +1,10 @@
 -- Laws of the context of a property's values.
 --     name_is          the name of an array is that of its first element
 --     type_word, type_other    the ways of `type_at`
---     context_made     that of `context_at`;   values_good, values_bad: those of `are_read`
-use Rattle.std.specs.Prelude.{◌≡◌, refl, true, false, List, [], ℕ, zero, suc, ◌≤◌, ◌<◌}
+--     context_made     that of `context_at`
+use Rattle.std.specs.Prelude.{◌≡◌, refl, true, false, List, [], ℕ, zero, suc, ◌≤◌, ◌<◌, Option, None, Some}
 use Rattle.std.proofs.Common.{sym, ◌∙◌, arith}
 use Rattle.std.proofs.Math.Path.{ap}
-use Rattle.std.proofs.Math.Option.{Option, none, some}
 use Rattle.std.proofs.Math.ListN.{length}
 use Rattle.octets.specs.Ascii.{ascii}
 use Rattle.octets.specs.Class.{upper}
@@ -24,11 +23,7 @@ use Rattle.schema.specs.declared.table.Row.{Row}
 use Rattle.json_text.specs.Tree.{Elements, element_list, first_of}
 use Rattle.json_text.specs.Kinds.{as_string, nth}
 use Rattle.jcal.specs.Property.{name_in, type_of, property_name, value_type_of}
-use Rattle.jcal.specs.Values.{read_values}
 use Rattle.jcal.proofs.laws.TypeNames.{word_type, no_type, word_placed}
-use Rattle.read_jcal_value.specs.Values.{are_read}
-use Rattle.read_jcal_value.specs.declared.valued.ValuesRead.{ValuesRead}
-use Rattle.read_jcal_value.specs.declared.valued.ValuesRead.TheVariants.{Read, Bad}
 use Rattle.read_json.specs.TreeAt.{elements_at}
 use Rattle.write_text_jcal_values.specs.Elements.{list_at, without, characters_in}
 use Rattle.write_text_jcal_values.specs.laws.Elements.{nth_first}
@@ -40,14 +35,14 @@ name_is es = ap (λ (o : Option (List ℕ)). read_or [] o) (nth_first as_string 
 
 -- ---- the type
 
-nameless : type_of [] ≡ none
+nameless : type_of [] ≡ None
 unfolding octets_compute type_named
 nameless = refl
 
 type_by : (o : Option (List ℕ)) → read_or TEXT (and_then o type_of) ≡ read_or TEXT (type_of (read_or [] o))
 unfolding and_then read_or
-type_by none = sym (ap (λ (t : Option ValueType). read_or TEXT t) nameless)
-type_by (some l) = refl
+type_by None = sym (ap (λ (t : Option ValueType). read_or TEXT t) nameless)
+type_by (Some l) = refl
 
 type_is : (es : Elements) → value_type_of (element_list es) ≡ read_or TEXT (type_of (characters_in (without 2 es)))
 type_is es = ap (λ (o : Option (List ℕ)). read_or TEXT (and_then o type_of)) (nth_first as_string refl 2 es) ∙ type_by (as_string (first_of (without 2 es)))
@@ -80,13 +75,3 @@ context_made k s inside c j e y = record {
   type = y.0;
   small = y.1;
 }
-
--- ---- whether the values can be read
-
-module _ (s : List ℕ) (from : ℕ) {x : Context} {v : ValuesRead}
-    (y : (c w : List ℕ) → x.component ≡ place_of c component_names → x.row ≡ row_at (place_of w property_names) → x.value_type ≤ 14 → are_read v ≡ is_read (read_values c w (type_at x.value_type) (list_at s from))) where
-  pub values_good : v ≡ Read → (c w : List ℕ) → x.component ≡ place_of c component_names → x.row ≡ row_at (place_of w property_names) → x.value_type ≤ 14 → true ≡ is_read (read_values c w (type_at x.value_type) (list_at s from))
-  values_good e c w p q l = sym (ap are_read e) ∙ y c w p q l
-
-  pub values_bad : v ≡ Bad → (c w : List ℕ) → x.component ≡ place_of c component_names → x.row ≡ row_at (place_of w property_names) → x.value_type ≤ 14 → false ≡ is_read (read_values c w (type_at x.value_type) (list_at s from))
-  values_bad e c w p q l = sym (ap are_read e) ∙ y c w p q l

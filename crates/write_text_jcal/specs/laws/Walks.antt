@@ -2,11 +2,10 @@
 --     Walking          the invariant of a walk that writes: what is left to write from the element at hand on
 --     own_..           of properties;   inner_..: of components
 --     head_put, tail_put, name_folded    from what was put
-use Rattle.std.specs.Prelude.{◌≡◌, Bool, true, false, ℕ, zero, suc, ◌+◌, ◌-◌, ◌*◌, ◌^◌, ◌≤◌, ◌<◌, take}
+use Rattle.std.specs.Prelude.{◌≡◌, Bool, true, false, ℕ, zero, suc, ◌+◌, ◌-◌, ◌*◌, ◌^◌, ◌≤◌, ◌<◌, take, Option, None}
 use Rattle.std.proofs.Math.Path.{refl, ap}
 use Rattle.std.proofs.Common.{sym, subst, ◌∙◌, lt-ltb}
 use mathlib.Core.List.{List, [], ◌∷◌, map}
-use Rattle.std.proofs.Math.Option.{Option, none}
 use native.Mathlib.Omega.{arith}
 use Rattle.std.proofs.Math.ListN.{length}
 use Rattle.octets.specs.Pick.{pick}
@@ -107,7 +106,7 @@ values_by : (c e n : List ℕ) (t : ValueType) (vs : List Json) → place_of c c
 unfolding read_values
 values_by c e n t vs h =
     ap (λ (ws : Option (List (List ℕ))). pick (is_type_of t (permitted_types n)) (read_each (λ v.
-    pick (same n (ascii "GEO")) (and_then (as_array v) read_geo) (pick (same n (ascii "REQUEST-STATUS")) (and_then (as_array v) (λ xs. and_then (read_each as_string xs) read_status)) (read_chosen ws t v))) vs) none)
+    pick (same n (ascii "GEO")) (and_then (as_array v) read_geo) (pick (same n (ascii "REQUEST-STATUS")) (and_then (as_array v) (λ xs. and_then (read_each as_string xs) read_status)) (read_chosen ws t v))) vs) None)
     (words_place c n ∙ ap (λ (k : ℕ). words_at k (place_of n property_names)) h ∙ sym (words_place e n))
 
 property_by : (c e : List ℕ) (vs : List Json) → place_of c component_names ≡ place_of e component_names → property_of c vs ≡ property_of e vs

@@ -4,11 +4,10 @@
 --     there_is, none_is          the elements from its place on;   there_less, there_spans: its bounds
 --     Skipping                   the invariant of the walk over the first of them;   `search skipping`
 --     string_here .. object_none  the answers of `string_at`, `array_at` and `object_at`;   `search kinds`
-use Rattle.std.specs.Prelude.{◌≡◌, refl, Bool, true, false, List, [], ◌∷◌, ℕ, zero, suc, ◌+◌, ◌-◌, ◌*◌, ◌≤◌, ◌<◌, length, drop}
+use Rattle.std.specs.Prelude.{◌≡◌, refl, Bool, true, false, List, [], ◌∷◌, ℕ, zero, suc, ◌+◌, ◌-◌, ◌*◌, ◌≤◌, ◌<◌, length, drop, Option, None, Some}
 use Rattle.std.proofs.Math.Path.{sym, ap}
 use Rattle.std.proofs.Common.{◌∙◌, arith, drop_of_length-le, rules}
 use Rattle.std.proofs.lemmas.Bool.{false≢true}
-use Rattle.std.proofs.Math.Option.{Option, none, some}
 use Rattle.octets.specs.Reading.{and_then, read_or}
 use Rattle.source.specs.Source.{rest}
 use Rattle.source.specs.laws.Quoted.{rest_quoted}
@@ -24,7 +23,7 @@ use Rattle.read_json.specs.Kinds.{is_there, is_string, is_array, is_object}
 use Rattle.read_json.specs.laws.Kinds.{string_there, first_by, there_by, none_by, taken_by}
 use Rattle.read_json.specs.declared.Head.{Head}
 use Rattle.read_json.specs.declared.HeadKind.{HeadKind}
-use Rattle.read_json.specs.declared.HeadKind.TheVariants.{None, String, Number, Literal, Array, Object}
+use Rattle.read_json.specs.declared.HeadKind.TheVariants.{Absent, String, Number, Literal, Array, Object}
 use Rattle.write_text_jcal_values.specs.Elements.{list_at, without, characters_in, members_in}
 
 -- ---- lists
@@ -40,20 +39,20 @@ without_list zero es = refl
 without_list (suc k) no_elements = refl
 without_list (suc k) (element v vs) = without_list k vs
 
-first_list : {A : Type 0} (f : Json → Option A) → f (literal 0 []) ≡ none → (es : Elements) → and_then (nth 0 (element_list es)) f ≡ f (first_of es)
+first_list : {A : Type 0} (f : Json → Option A) → f (literal 0 []) ≡ None → (es : Elements) → and_then (nth 0 (element_list es)) f ≡ f (first_of es)
 unfolding element_list and_then
 first_list f h no_elements = sym h
 first_list f h (element v vs) = refl
 
 -- what is read of an element, of a null that stands for one that is not there nothing
-pub nth_first : {A : Type 0} (f : Json → Option A) → f (literal 0 []) ≡ none → (k : ℕ) (es : Elements) → and_then (nth k (element_list es)) f ≡ f (first_of (without k es))
+pub nth_first : {A : Type 0} (f : Json → Option A) → f (literal 0 []) ≡ None → (k : ℕ) (es : Elements) → and_then (nth k (element_list es)) f ≡ f (first_of (without k es))
 nth_first f h k es = ap (λ (l : List Json). and_then (nth 0 l) f) (without_list k es) ∙ first_list f h (without k es)
 
 -- ---- by the kind of an element
 
 behind_of : (k : HeadKind) (s : List ℕ) (p n c : ℕ) → without (suc c) (head_by k s p n) ≡ without c (behind_by k s n)
 unfolding without
-behind_of None s p n c = sym (without_none c)
+behind_of Absent s p n c = sym (without_none c)
 behind_of String s p n c = refl
 behind_of Number s p n c = refl
 behind_of Literal s p n c = refl
@@ -62,7 +61,7 @@ behind_of Object s p n c = refl
 
 string_of : (k : HeadKind) (s : List ℕ) (p n : ℕ) → is_string k ≡ true → read_or [] (as_string (value_by k s p n)) ≡ string_at s p
 unfolding read_or
-string_of None s p n q = absurd (false≢true q)
+string_of Absent s p n q = absurd (false≢true q)
 string_of String s p n q = refl
 string_of Number s p n q = absurd (false≢true q)
 string_of Literal s p n q = absurd (false≢true q)
@@ -71,7 +70,7 @@ string_of Object s p n q = absurd (false≢true q)
 
 string_other : (k : HeadKind) (s : List ℕ) (p n : ℕ) → is_string k ≡ false → read_or [] (as_string (value_by k s p n)) ≡ []
 unfolding read_or
-string_other None s p n q = refl
+string_other Absent s p n q = refl
 string_other String s p n q = absurd (false≢true (sym q))
 string_other Number s p n q = refl
 string_other Literal s p n q = refl
@@ -79,7 +78,7 @@ string_other Array s p n q = refl
 string_other Object s p n q = refl
 
 array_of : (k : HeadKind) (s : List ℕ) (p n : ℕ) → is_array k ≡ true → stream_in (value_by k s p n) ≡ elements_at s n
-array_of None s p n q = absurd (false≢true q)
+array_of Absent s p n q = absurd (false≢true q)
 array_of String s p n q = absurd (false≢true q)
 array_of Number s p n q = absurd (false≢true q)
 array_of Literal s p n q = absurd (false≢true q)
@@ -87,7 +86,7 @@ array_of Array s p n q = refl
 array_of Object s p n q = absurd (false≢true q)
 
 array_other : (k : HeadKind) (s : List ℕ) (p n : ℕ) → is_array k ≡ false → stream_in (value_by k s p n) ≡ no_elements
-array_other None s p n q = refl
+array_other Absent s p n q = refl
 array_other String s p n q = refl
 array_other Number s p n q = refl
 array_other Literal s p n q = refl
@@ -95,7 +94,7 @@ array_other Array s p n q = absurd (false≢true (sym q))
 array_other Object s p n q = refl
 
 object_of : (k : HeadKind) (s : List ℕ) (p n : ℕ) → is_object k ≡ true → members_in (value_by k s p n) ≡ members_at s n
-object_of None s p n q = absurd (false≢true q)
+object_of Absent s p n q = absurd (false≢true q)
 object_of String s p n q = absurd (false≢true q)
 object_of Number s p n q = absurd (false≢true q)
 object_of Literal s p n q = absurd (false≢true q)
@@ -103,7 +102,7 @@ object_of Array s p n q = absurd (false≢true q)
 object_of Object s p n q = refl
 
 object_other : (k : HeadKind) (s : List ℕ) (p n : ℕ) → is_object k ≡ false → members_in (value_by k s p n) ≡ no_members
-object_other None s p n q = refl
+object_other Absent s p n q = refl
 object_other String s p n q = refl
 object_other Number s p n q = refl
 object_other Literal s p n q = refl

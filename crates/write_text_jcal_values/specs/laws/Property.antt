@@ -3,13 +3,12 @@
 --     written_..                              those of `written_type`;   `search written`
 --     values_put, values_unread               those of `put_values`
 --     type_first, type_none, type_unread      those of `type_of_values`
-use Rattle.std.specs.Prelude.{◌≡◌, refl, Bool, ℕ, ◌*◌, ◌^◌, ◌≤◌, ◌<◌, eqb, length}
+use Rattle.std.specs.Prelude.{◌≡◌, refl, Bool, ℕ, ◌*◌, ◌^◌, ◌≤◌, ◌<◌, eqb, length, Option, None, Some}
 use Rattle.std.proofs.Common.{sym, ◌∙◌, arith, rules}
 use Rattle.std.proofs.Math.Path.{ap, subst}
 use Rattle.std.proofs.Math.Bool.{true, false}
 use Rattle.std.proofs.lemmas.Bool.{false≢true}
 use mathlib.Core.List.{List, [], ◌∷◌, map}
-use Rattle.std.proofs.Math.Option.{Option, none, some}
 use borrow.Author.Tests.{eq-eqb, ne_eqb}
 use Rattle.octets.specs.Pick.{pick}
 use Rattle.octets.specs.Words.{is_one_of, joined_by}
@@ -50,19 +49,19 @@ use Rattle.write_text_jcal_values.specs.laws.Typed.{typed_type}
 -- ---- one value
 
 module _ (s : List ℕ) (h : Head) {d e : List ℕ} {o r : ℕ} (p t : ℕ) where
-  pub value_geo : p ≡ property.GEO → ((v : Value) → read_geo (list_at s h.next) ≡ some v → Put d e o r (write_value v)) → (v : Value) → one_at p t (value_of_head s h) ≡ some v → Put d e o r (write_value v)
+  pub value_geo : p ≡ property.GEO → ((v : Value) → read_geo (list_at s h.next) ≡ Some v → Put d e o r (write_value v)) → (v : Value) → one_at p t (value_of_head s h) ≡ Some v → Put d e o r (write_value v)
   unfolding pick
   value_geo q w v k = w v (array_some s h.place h.next v read_geo h.kind (rw (eq-eqb p property.GEO q) at k))
 
   module _ (n : p ≡ property.GEO → ⊥) where
-    pub value_status : p ≡ property.REQUEST-STATUS → ((v : Value) → and_then (read_each as_string (list_at s h.next)) read_status ≡ some v → Put d e o r (write_value v)) →
-        (v : Value) → one_at p t (value_of_head s h) ≡ some v → Put d e o r (write_value v)
+    pub value_status : p ≡ property.REQUEST-STATUS → ((v : Value) → and_then (read_each as_string (list_at s h.next)) read_status ≡ Some v → Put d e o r (write_value v)) →
+        (v : Value) → one_at p t (value_of_head s h) ≡ Some v → Put d e o r (write_value v)
     unfolding pick
     value_status q w v k =
         w v (array_some s h.place h.next v (λ vs. and_then (read_each as_string vs) read_status) h.kind (rw (ne_eqb p property.GEO n, eq-eqb p property.REQUEST-STATUS q) at k))
 
-    pub value_typed : (p ≡ property.REQUEST-STATUS → ⊥) → ((v : Value) → read_typed (type_at t) (value_of_head s h) ≡ some v → Put d e o r (write_value v)) →
-        (v : Value) → one_at p t (value_of_head s h) ≡ some v → Put d e o r (write_value v)
+    pub value_typed : (p ≡ property.REQUEST-STATUS → ⊥) → ((v : Value) → read_typed (type_at t) (value_of_head s h) ≡ Some v → Put d e o r (write_value v)) →
+        (v : Value) → one_at p t (value_of_head s h) ≡ Some v → Put d e o r (write_value v)
     unfolding pick
     value_typed m w v k = w v (rw (ne_eqb p property.GEO n, ne_eqb p property.REQUEST-STATUS m) at k)
 
@@ -92,12 +91,12 @@ pub ruleset written = (written_geo, written_status, written_word, written_stated
 -- ---- names and numbers
 
 -- a word of a closed set is a TEXT
-chosen_text : (ws : List (List ℕ)) (v : Json) (x : Value) → and_then (as_string v) (λ l. provided (is_one_of l ws) (text l)) ≡ some x → read_typed TEXT v ≡ some x
+chosen_text : (ws : List (List ℕ)) (v : Json) (x : Value) → and_then (as_string v) (λ l. provided (is_one_of l ws) (text l)) ≡ Some x → read_typed TEXT v ≡ Some x
 unfolding read_typed read_value and_then
 chosen_text ws v x h =
     let e = and_then-some (as_string v) (λ l. provided (is_one_of l ws) (text l)) x h in
     let g = provided-some (is_one_of e.0 ws) (text e.0) x e.2 in
-    rw e.1 (ap some g.1)
+    rw e.1 (ap Some g.1)
 
 module _ (c w : List ℕ) (t : ℕ) where
   abbrev row_place : ℕ
@@ -106,31 +105,31 @@ module _ (c w : List ℕ) (t : ℕ) where
   abbrev type_place : ℕ
   type_place = written_at (place_of c component_names) row_place t
 
-  one_read : (v : Json) (x : Value) → read_one c w (type_at t) v ≡ some x → one_at row_place type_place v ≡ some x
+  one_read : (v : Json) (x : Value) → read_one c w (type_at t) v ≡ Some x → one_at row_place type_place v ≡ Some x
   unfolding pick is_read
   one_read v x h = go (eqb row_place property.GEO) (eqb row_place property.REQUEST-STATUS) (words_at (place_of c component_names) row_place) (rw (geo_place w, request_status_place w, words_place c w) at h)
     where
       go : (a b : Bool) (o : Option (List (List ℕ))) →
-          pick a (and_then (as_array v) read_geo) (pick b (and_then (as_array v) (λ vs. and_then (read_each as_string vs) read_status)) (read_chosen o (type_at t) v)) ≡ some x →
-          pick a (and_then (as_array v) read_geo) (pick b (and_then (as_array v) (λ vs. and_then (read_each as_string vs) read_status)) (read_typed (type_at (pick a 6 (pick b 10 (pick (is_read o) 10 t)))) v)) ≡ some x
+          pick a (and_then (as_array v) read_geo) (pick b (and_then (as_array v) (λ vs. and_then (read_each as_string vs) read_status)) (read_chosen o (type_at t) v)) ≡ Some x →
+          pick a (and_then (as_array v) read_geo) (pick b (and_then (as_array v) (λ vs. and_then (read_each as_string vs) read_status)) (read_typed (type_at (pick a 6 (pick b 10 (pick (is_read o) 10 t)))) v)) ≡ Some x
       go true b o k = k
       go false true o k = k
-      go false false none k = k
-      go false false (some ws) k = chosen_text ws v x k
+      go false false None k = k
+      go false false (Some ws) k = chosen_text ws v x k
 
-  each_read : (vs : List Json) (xs : List Value) → read_each (read_one c w (type_at t)) vs ≡ some xs → read_each (one_at row_place type_place) vs ≡ some xs
+  each_read : (vs : List Json) (xs : List Value) → read_each (read_one c w (type_at t)) vs ≡ Some xs → read_each (one_at row_place type_place) vs ≡ Some xs
   unfolding read_each
   each_read [] xs h = h
   each_read (v ∷ vs) xs h =
       let g = each_first (read_one c w (type_at t)) v vs xs h in
-      each_more (one_at row_place type_place) v vs g.0 g.1 (one_read v g.0 g.2) (each_read vs g.1 g.3) ∙ ap some (sym g.4)
+      each_more (one_at row_place type_place) v vs g.0 g.1 (one_read v g.0 g.2) (each_read vs g.1 g.3) ∙ ap Some (sym g.4)
 
-  one_type : (v : Json) (x : Value) → one_at row_place type_place v ≡ some x → type_of x ≡ type_at type_place
+  one_type : (v : Json) (x : Value) → one_at row_place type_place v ≡ Some x → type_of x ≡ type_at type_place
   unfolding pick
   one_type v x h = go (eqb row_place property.GEO) (eqb row_place property.REQUEST-STATUS) (pick (is_read (words_at (place_of c component_names) row_place)) 10 t) h
     where
       go : (a b : Bool) (u : ℕ) →
-          pick a (and_then (as_array v) read_geo) (pick b (and_then (as_array v) (λ vs. and_then (read_each as_string vs) read_status)) (read_typed (type_at (pick a 6 (pick b 10 u))) v)) ≡ some x → type_of x ≡ type_at (pick a 6 (pick b 10 u))
+          pick a (and_then (as_array v) read_geo) (pick b (and_then (as_array v) (λ vs. and_then (read_each as_string vs) read_status)) (read_typed (type_at (pick a 6 (pick b 10 u))) v)) ≡ Some x → type_of x ≡ type_at (pick a 6 (pick b 10 u))
       go true b u k = let e = and_then-some (as_array v) read_geo x k in geo_typed e.0 x e.2
       go false true u k =
           let e = and_then-some (as_array v) (λ vs. and_then (read_each as_string vs) read_status) x k in
@@ -139,12 +138,12 @@ module _ (c w : List ℕ) (t : ℕ) where
       go false false u k = typed_type (type_at u) v x k
 
   -- values that are read
-  values_read : (vs : List Json) → is_read (read_values c w (type_at t) vs) ≡ true → (xs : List Value) × (read_each (one_at row_place type_place) vs ≡ some xs) × (read_or [] (read_values c w (type_at t) vs) ≡ xs)
+  values_read : (vs : List Json) → is_read (read_values c w (type_at t) vs) ≡ true → (xs : List Value) × (read_each (one_at row_place type_place) vs ≡ Some xs) × (read_or [] (read_values c w (type_at t) vs) ≡ xs)
   unfolding read_values
   values_read vs h = go (is_type_of (type_at t) (permitted_types w)) h
     where
-      go : (b : Bool) → is_read (pick b (read_each (read_one c w (type_at t)) vs) none) ≡ true →
-          (xs : List Value) × (read_each (one_at row_place type_place) vs ≡ some xs) × (read_or [] (pick b (read_each (read_one c w (type_at t)) vs) none) ≡ xs)
+      go : (b : Bool) → is_read (pick b (read_each (read_one c w (type_at t)) vs) None) ≡ true →
+          (xs : List Value) × (read_each (one_at row_place type_place) vs ≡ Some xs) × (read_or [] (pick b (read_each (read_one c w (type_at t)) vs) None) ≡ xs)
       go true k =
           let e = read_some (read_each (read_one c w (type_at t)) vs) (unfold pick in k) in
           (e.0, each_read vs e.0 e.1, unfold pick read_or in ap (λ (o : Option (List Value)). read_or [] o) e.1)
@@ -152,8 +151,8 @@ module _ (c w : List ℕ) (t : ℕ) where
 
 unread : {A : Type 0} (o : Option (List A)) → is_read o ≡ false → read_or [] o ≡ []
 unfolding is_read read_or
-unread none h = refl
-unread (some l) h = absurd (false≢true (sym h))
+unread None h = refl
+unread (Some l) h = absurd (false≢true (sym h))
 
 -- ---- the ways of the code
 
@@ -165,16 +164,16 @@ module _ {x : Context} {t : ℕ} (z : (t ≡ written_at x.component x.row.number
     type : t ≡ written_at (place_of c component_names) (place_of w property_names) x.value_type
     type = z.0 ∙ ap (λ (k : ℕ). written_at k x.row.number x.value_type) a.component ∙ ap (λ (p : ℕ). written_at (place_of c component_names) p x.value_type) number
 
-    reads : b ≡ true → (xs : List Value) × (read_each (one_at x.row.number t) (list_at s from) ≡ some xs) × (stated_as x c w (list_at s from) ≡ xs)
+    reads : b ≡ true → (xs : List Value) × (read_each (one_at x.row.number t) (list_at s from) ≡ Some xs) × (stated_as x c w (list_at s from) ≡ xs)
     reads q =
         let g = values_read c w x.value_type (list_at s from) (sym a.is ∙ q) in
         (g.0, ap (λ (p : ℕ). read_each (one_at p t) (list_at s from)) number ∙ ap (λ (u : ℕ). read_each (one_at (place_of w property_names) u) (list_at s from)) type ∙ g.1, g.2)
 
-    types : b ≡ true → (v : Json) (y : Value) → one_at x.row.number t v ≡ some y → type_of y ≡ type_at t
+    types : b ≡ true → (v : Json) (y : Value) → one_at x.row.number t v ≡ Some y → type_of y ≡ type_at t
     types q v y k =
         one_type c w x.value_type v y (sym (ap (λ (p : ℕ). one_at p t v) number ∙ ap (λ (u : ℕ). one_at (place_of w property_names) u v) type) ∙ k) ∙ ap type_at (sym type)
 
-  pub values_put : {d e : List ℕ} {o r : ℕ} → b ≡ true → ((vs : List Value) → read_each (one_at x.row.number t) (list_at s from) ≡ some vs → Put d e o r (joined_by 44 (map write_value vs))) →
+  pub values_put : {d e : List ℕ} {o r : ℕ} → b ≡ true → ((vs : List Value) → read_each (one_at x.row.number t) (list_at s from) ≡ Some vs → Put d e o r (joined_by 44 (map write_value vs))) →
       (c w : List ℕ) → ReadAs x c w (list_at s from) b → Put d e o r (write_values (stated_as x c w (list_at s from)))
   unfolding write_values
   values_put {d} {e} {o} {r} q p c w a = let g = reads c w a q in subst (λ (l : List Value). Put d e o r (joined_by 44 (map write_value l))) (sym g.2) (p g.0 g.1)

@@ -1,9 +1,8 @@
 -- Laws of what specs/Leaves.antt defines.
 --     put_..         what the writer of each type puts is that;   placing: the choice of a type
-use Rattle.std.specs.Prelude.{◌≡◌, refl, Bool, List, [], ℕ, eqb}
+use Rattle.std.specs.Prelude.{◌≡◌, refl, Bool, List, [], ℕ, eqb, Option, None, Some, option_map}
 use Rattle.std.proofs.Common.{sym, rules, eq-eqb, ne_eqb}
 use Rattle.std.proofs.Math.Path.{subst}
-use Rattle.std.proofs.Math.Option.{Option, none, some, map}
 use Rattle.octets.specs.Pick.{pick}
 use Rattle.octets.specs.Reading.{read_or, or_nothing}
 use Rattle.calendar.specs.Calendar.{ical, xcal, ValueType, BINARY, BOOLEAN, CAL-ADDRESS, DATE, DATE-TIME, DURATION, FLOAT, INTEGER, PERIOD, RECUR, TEXT, TIME, URI, UTC-OFFSET, UNKNOWN}
@@ -18,9 +17,6 @@ use Rattle.times.specs.UtcOffset.{read_utc_offset, write_utc_offset}
 use Rattle.numbers.specs.Integer.{read_integer, write_integer}
 use Rattle.numbers.specs.Float.{read_float, write_float}
 use Rattle.numbers.specs.Boolean.{read_boolean, write_boolean}
-use Rattle.numbers.specs.ReadBoolean.{truth_of}
-use Rattle.numbers.specs.declared.boolean.BooleanRead.{BooleanRead}
-use Rattle.numbers.specs.declared.boolean.BooleanRead.TheVariants.{Truth, Bad}
 use Rattle.texts.specs.Text.{write_text}
 use Rattle.texts.specs.Uri.{read_uri}
 use Rattle.texts.specs.Binary.{read_binary}
@@ -35,13 +31,13 @@ use Rattle.write_text_pieces.specs.Leaves.{value_text}
 -- what is not read counts as an empty text, of which nothing is written
 pub value_or : (o : Option Value) → value_text o ≡ write_value (read_or (text []) o)
 unfolding value_text read_or write_value write_text
-value_or none = refl
-value_or (some v) = refl
+value_or None = refl
+value_or (Some v) = refl
 
-mapped : {A : Type 0} (g : A → Value) (w : A → List ℕ) (o : Option A) → ((a : A) → write_value (g a) ≡ w a) → or_nothing w o ≡ value_text (map g o)
+mapped : {A : Type 0} (g : A → Value) (w : A → List ℕ) (o : Option A) → ((a : A) → write_value (g a) ≡ w a) → or_nothing w o ≡ value_text (option_map g o)
 unfolding value_text
-mapped g w none k = refl
-mapped g w (some a) k = sym (k a)
+mapped g w None k = refl
+mapped g w (Some a) k = sym (k a)
 
 module _ {d e : List ℕ} {o r : ℕ} (l : List ℕ) where
   pub put_date : Put d e o r (or_nothing (write_date ical) (read_date xcal l)) → Put d e o r (value_text (read_value xcal DATE l))
@@ -103,12 +99,12 @@ module _ {d e : List ℕ} {o r : ℕ} (l : List ℕ) where
   put_rule p = p
 
   -- a BOOLEAN that was read
-  module _ {b : BooleanRead} (q : read_boolean xcal l ≡ truth_of b) where
-    pub put_truth : {t : Bool} → b ≡ Truth t → Put d e o r (write_boolean ical t) → Put d e o r (value_text (read_value xcal BOOLEAN l))
+  module _ {b : Option Bool} (q : read_boolean xcal l ≡ b) where
+    pub put_truth : {t : Bool} → b ≡ Some t → Put d e o r (write_boolean ical t) → Put d e o r (value_text (read_value xcal BOOLEAN l))
     unfolding read_value value_text write_value
     put_truth {t} h p = rw (q, h) p
 
-    pub put_no_truth : b ≡ Bad → Put d e o r [] → Put d e o r (value_text (read_value xcal BOOLEAN l))
+    pub put_no_truth : b ≡ None → Put d e o r [] → Put d e o r (value_text (read_value xcal BOOLEAN l))
     unfolding read_value value_text
     put_no_truth h p = rw (q, h) p
 

@@ -1,7 +1,8 @@
 -- Laws of what specs/Children.antt defines.
 --     Naming      the walk to it;   child_..: its ways, `search children`
 --     put_chars, put_there   what is written of the characters of an element, of a child
-use Rattle.std.specs.Prelude.{◌≡◌, refl, Bool, true, false, List, ℕ, ◌*◌, ◌≤◌, length, take}
+use Rattle.std.specs.Prelude.{◌≡◌, refl, Bool, true, false, List, ℕ, ◌*◌, ◌≤◌, length, take, Option, None, Some, unwrap_or}
+use Prim.{tt}
 use Rattle.std.proofs.Common.{sym, subst, ◌∙◌, rules}
 use native.Mathlib.Omega.{arith}
 use Rattle.octets.specs.Pick.{pick}
@@ -18,13 +19,11 @@ use Rattle.read_xml_nodes.specs.HeadFound.{HeadAt, NodeEnded}
 use Rattle.read_xml_nodes.specs.laws.HeadFound.{head_none, head_element, head_whole, end_onward, head_literal, head_literal_onward, head_referred, head_referred_onward, head_less}
 use Rattle.read_xml_nodes.specs.declared.Ended.{Ended}
 use Rattle.read_xml_nodes.specs.declared.Head.{Head}
-use Rattle.read_xml_nodes.specs.declared.NodeKind.TheVariants.{None, Element, Literal, Referred}
+use Rattle.read_xml_nodes.specs.declared.NodeKind.TheVariants.{Absent, Element, Literal, Referred}
 use Rattle.read_xml_nodes.specs.laws.Characters.{characters_at}
 use Rattle.read_xml_nodes.specs.laws.Walks.{Skips}
 use Rattle.write_text_values.specs.laws.Walking.{Seeking, seek_start, seek_at, seek_past, seek_literal, seek_referred}
 use Rattle.write_text_values.specs.Children.{ChildAt, TextAt}
-use Rattle.write_text_values.specs.declared.child.Child.{Child}
-use Rattle.write_text_values.specs.declared.child.Child.TheVariants.{Found, Missing}
 
 -- ---- the walk
 
@@ -39,15 +38,15 @@ pub child_start : (n s : List ℕ) (from : ℕ) → Naming n s from from
 child_start n s from = record { walk = seek_start (child_named n) s from }
 
 module _ {n s : List ℕ} {from at : ℕ} {r : Head} (w : Naming n s from at) (d : HeadAt s at r) where
-  pub child_none : r.kind ≡ None → ChildAt n s from Missing
+  pub child_none : r.kind ≡ Absent → ChildAt n s from None
   unfolding child_named
-  child_none q = record { is = seek_at w.walk (head_none d q); within = omega arith }
+  child_none q = record { is = seek_at w.walk (head_none d q); within = tt }
 
   module _ {b : Bool} (q : r.kind ≡ Element) (e : b ≡ same (rest 0 (take r.name_end s) r.name) n) where
     named : same n (rest 0 (take r.name_end s) r.name) ≡ b
     named = same_either n _ ∙ sym e
 
-    pub child_here : b ≡ true → ChildAt n s from (Found r.inside)
+    pub child_here : b ≡ true → ChildAt n s from (Some r.inside)
     unfolding child_named pick
     child_here h = record { is = seek_at w.walk (head_element d q) ∙ rw (named, h); within = d.inside_within }
 
@@ -65,16 +64,23 @@ pub ruleset children = (child_start, child_none, child_here, child_other, child_
 
 -- ---- its characters
 
-module _ {n s : List ℕ} {from : ℕ} {c : Child} (d : ChildAt n s from c) where
-  pub text_found : {i : ℕ} → c ≡ Found i → TextAt n s from i
+module _ {n s : List ℕ} {from : ℕ} {c : Option ℕ} (d : ChildAt n s from c) where
+  text_found : {i : ℕ} → c ≡ Some i → TextAt n s from i
   unfolding read_or
   text_found h = record { is = rw (d.is, h); within = rw h at d.within }
 
-  pub text_missing : c ≡ Missing → TextAt n s from (length s)
+  text_missing : c ≡ None → TextAt n s from (length s)
   unfolding read_or characters_of
   text_missing h = record { is = rw (d.is, h, nodes_none s (length s) (omega arith)); within = omega arith }
 
-  pub found_within : {i : ℕ} → c ≡ Found i → i ≤ length s
+  pub text_or_end : TextAt n s from (unwrap_or c (length s))
+  text_or_end = go c refl
+    where
+      go : (o : Option ℕ) → c ≡ o → TextAt n s from (unwrap_or o (length s))
+      go None h = text_missing h
+      go (Some i) h = text_found h
+
+  pub found_within : {i : ℕ} → c ≡ Some i → i ≤ length s
   found_within h = rw h at d.within
 
 -- what is written of the characters that are read there

@@ -1,11 +1,10 @@
 -- Laws of what specs/PutRule.antt defines.
 --     Itemizing       the invariant of the loop over the items of a part
 --     Parting         that of the loop over the parts
-use Rattle.std.specs.Prelude.{◌≡◌, refl, Bool, true, false, ℕ, ◌+◌, ◌-◌, ◌*◌, ◌^◌, ◌≤◌, ◌<◌, length, take, drop}
+use Rattle.std.specs.Prelude.{◌≡◌, refl, Bool, true, false, ℕ, ◌+◌, ◌-◌, ◌*◌, ◌^◌, ◌≤◌, ◌<◌, length, take, drop, Option, None, Some, IfSome}
 use Rattle.std.proofs.Math.Path.{ap, subst}
 use Rattle.std.proofs.Common.{◌∙◌, arith, add-one, drop_of_length-le, drop-cons}
 use mathlib.Core.List.{List, [], ◌∷◌, map}
-use Rattle.std.proofs.Math.Option.{Option, none, some}
 use Rattle.octets.specs.Ascii.{ascii}
 use Rattle.octets.specs.Pick.{pick}
 use Rattle.octets.specs.Append.{◌⊕◌}
@@ -27,15 +26,14 @@ use Rattle.write_text_pieces.specs.laws.Joining.{following, following_first, fol
 use Rattle.write_text_values.specs.Rules.{part_name, item_at, items_from, Within, ItemAt}
 use Rattle.write_text_values.specs.laws.Rules.{part_capitals}
 use Rattle.write_text_values.specs.PutRule.{item_text}
-use Rattle.write_text_values.specs.declared.rule.ItemFound.{ItemFound}
-use Rattle.write_text_values.specs.declared.rule.ItemFound.TheVariants.{Item, Last}
+use Rattle.write_text_values.specs.declared.rule.Item.{Item}
 
 -- ---- one item
 
 item_text_lem : (o : Option RuleItem) → or_nothing (write_item ical) o ≡ write_item ical (read_or (word []) o)
 unfolding read_or
-item_text_lem none = refl
-item_text_lem (some i) = refl
+item_text_lem None = refl
+item_text_lem (Some i) = refl
 
 pub put_item_text : {d e : List ℕ} {o r : ℕ} (p : ℕ) (s : List ℕ) (i : ℕ) → Put d e o r (or_nothing (write_item ical) (read_item xcal (part_name p) (rest 1 s (2 * i)))) → Put d e o r (item_text p s i)
 put_item_text {d} {e} {o} {r} p s i w =
@@ -43,24 +41,12 @@ put_item_text {d} {e} {o} {r} p s i w =
 
 -- ---- bounds of an item that was found
 
-module _ {p : ℕ} {s : List ℕ} {at : ℕ} {r : ItemFound} (f : ItemAt p s at r) {i x n e : ℕ} (h : r ≡ Item i x n e) where
-  found_within : Within p s at (Item i x n e)
-  found_within = subst (Within p s at) h f.within
+module _ {p : ℕ} {s : List ℕ} {at : ℕ} {r : Option Item} (f : ItemAt p s at r) {i : Item} (h : r ≡ Some i) where
+  pub item_within : Within p s at i
+  item_within = subst (λ (o : Option Item). IfSome o (Within p s at)) h f.within
 
-  pub item_inside : i ≤ length s
-  item_inside = found_within.0
-
-  pub item_next : x ≤ length s
-  item_next = found_within.1
-
-  pub item_onward : at < x
-  item_onward = found_within.2
-
-  pub item_name : e ≤ length s
-  item_name = found_within.3
-
-  pub item_less : length s - x < length s - at
-  item_less = omega (arith, item_next, item_onward)
+  pub item_less : length s - i.next < length s - at
+  item_less = omega (arith, item_within.next, item_within.onward)
 
 -- ---- the items of a part
 
@@ -74,15 +60,15 @@ pub record Itemizing (p : ℕ) (s : List ℕ) (from : ℕ) (d₀ : List ℕ) (o�
 pub items_start : (p : ℕ) (s : List ℕ) (from : ℕ) (d : List ℕ) (o : ℕ) → length d * 1 < 2 ^ 63 → Itemizing p s from d o d o from false
 items_start p s from d o z = record { todo = rw (following_first 44 (texts_of p s from)) (todo_all d o (joined_by 44 (texts_of p s from)) z); kept = refl }
 
-module _ {p : ℕ} {s : List ℕ} {from : ℕ} {d₀ : List ℕ} {o₀ : ℕ} {d : List ℕ} {o c : ℕ} {b : Bool} {r : ItemFound} (t : Itemizing p s from d₀ o₀ d o c b) (f : ItemAt p s c r) where
-  pub items_more : {i x n e : ℕ} {d' : List ℕ} {q : ℕ} → r ≡ Item i x n e → Put d d' o q (pick b (44 ∷ []) [] ⊕ item_text p s i) → Itemizing p s from d₀ o₀ d' q x true
+module _ {p : ℕ} {s : List ℕ} {from : ℕ} {d₀ : List ℕ} {o₀ : ℕ} {d : List ℕ} {o c : ℕ} {b : Bool} {r : Option Item} (t : Itemizing p s from d₀ o₀ d o c b) (f : ItemAt p s c r) where
+  pub items_more : {i : Item} {d' : List ℕ} {q : ℕ} → r ≡ Some i → Put d d' o q (pick b (44 ∷ []) [] ⊕ item_text p s i.inside) → Itemizing p s from d₀ o₀ d' q i.next true
   unfolding ◌⊕◌
-  items_more {i} {x} {n} {e} h w = record {
-    todo = todo_step t.todo w (ap (λ (l : List RuleItem). following b 44 (map (write_item ical) l)) (f.is ∙ ap (items_from p s) h) ∙ following_more b 44 (item_text p s i) (texts_of p s x));
+  items_more {i} h w = record {
+    todo = todo_step t.todo w (ap (λ (l : List RuleItem). following b 44 (map (write_item ical) l)) (f.is ∙ ap (items_from p s) h) ∙ following_more b 44 (item_text p s i.inside) (texts_of p s i.next));
     kept = put_length w ∙ t.kept;
   }
 
-  pub items_end : r ≡ Last → Put d₀ d o₀ o (joined_by 44 (texts_of p s from))
+  pub items_end : r ≡ None → Put d₀ d o₀ o (joined_by 44 (texts_of p s from))
   items_end h = todo_done t.todo (ap (λ (l : List RuleItem). following b 44 (map (write_item ical) l)) (f.is ∙ ap (items_from p s) h) ∙ following_none b 44)
 
 -- ---- the parts
@@ -102,24 +88,23 @@ pub parts_start : (s : List ℕ) (at : ℕ) (d : List ℕ) (o : ℕ) → length 
 parts_start s at d o z = record { todo = rw (following_first 59 (parts_text 0 (nodes_at s at))) (todo_all d o (write_rule (parts_of part_names (nodes_at s at))) z); kept = refl }
 
 module _ {s : List ℕ} {at : ℕ} {d₀ : List ℕ} {o₀ : ℕ} {d : List ℕ} {o : ℕ} {b : Bool} {p : ℕ} (t : Parting s at d₀ o₀ d o b p) where
-  module _ {r : ItemFound} (k : p < 14) (f : ItemAt p s at r) where
+  module _ {r : Option Item} (k : p < 14) (f : ItemAt p s at r) where
     left : {l : List RuleItem} → items_from p s r ≡ l → following b 59 (parts_text p (nodes_at s at)) ≡ following b 59 (map write_part (one_part (part_name p) l (parts_of (drop (p + 1) part_names) (nodes_at s at))))
     left e = ap (λ (l : List RulePart). following b 59 (map write_part l)) (parts_next p (nodes_at s at) k ∙ ap (λ (l : List RuleItem). one_part (part_name p) l (parts_of (drop (p + 1) part_names) (nodes_at s at))) (f.is ∙ e))
 
     -- a part that has items
-    pub parts_more : {i x n e : ℕ} {d' : List ℕ} {q : ℕ} → r ≡ Item i x n e →
-        Put d d' o q (pick b (59 ∷ []) [] ⊕ upper (rest 0 (take e s) n) ⊕ ascii "=" ⊕ joined_by 44 (texts_of p s at)) → Parting s at d₀ o₀ d' q true (p + 1)
+    pub parts_more : {i : Item} {d' : List ℕ} {q : ℕ} → r ≡ Some i →
+        Put d d' o q (pick b (59 ∷ []) [] ⊕ upper (rest 0 (take i.name_end s) i.name) ⊕ ascii "=" ⊕ joined_by 44 (texts_of p s at)) → Parting s at d₀ o₀ d' q true (p + 1)
     unfolding ◌⊕◌
-    parts_more {i} {x} {n} {e} {d'} {q} h w =
-        let v = subst (Within p s at) h f.within in
-        let m : upper (rest 0 (take e s) n) ≡ part_name p = part_capitals p (rest 0 (take e s) n) k v.4 in
-        let l : items_of (part_name p) (nodes_at s at) ≡ item_at p s i ∷ items_of (part_name p) (nodes_at s x) = f.is ∙ ap (items_from p s) h in
-        let y : upper (rest 0 (take e s) n) ⊕ ascii "=" ⊕ joined_by 44 (texts_of p s at) ≡ write_part (record { part = part_name p; items = item_at p s i ∷ items_of (part_name p) (nodes_at s x) }) =
+    parts_more {i} {d'} {q} h w =
+        let m : upper (rest 0 (take i.name_end s) i.name) ≡ part_name p = part_capitals p (rest 0 (take i.name_end s) i.name) k (item_within f h).named in
+        let l : items_of (part_name p) (nodes_at s at) ≡ item_at p s i.inside ∷ items_of (part_name p) (nodes_at s i.next) = f.is ∙ ap (items_from p s) h in
+        let y : upper (rest 0 (take i.name_end s) i.name) ⊕ ascii "=" ⊕ joined_by 44 (texts_of p s at) ≡ write_part (record { part = part_name p; items = item_at p s i.inside ∷ items_of (part_name p) (nodes_at s i.next) }) =
         ap (λ (z : List ℕ). z ⊕ ascii "=" ⊕ joined_by 44 (texts_of p s at)) m ∙ ap (λ (z : List RuleItem). part_name p ⊕ ascii "=" ⊕ joined_by 44 (map (write_item ical) z)) l in
         let u = subst (λ (z : List ℕ). Put d d' o q (pick b (59 ∷ []) [] ⊕ z)) y w in
         record { todo = todo_step t.todo u (left (ap (items_from p s) h) ∙ following_more b 59 _ _); kept = put_length w ∙ t.kept }
 
-    pub parts_none : r ≡ Last → Parting s at d₀ o₀ d o b (p + 1)
+    pub parts_none : r ≡ None → Parting s at d₀ o₀ d o b (p + 1)
     parts_none h = record { todo = subst (Todo d₀ o₀ (write_rule (parts_of part_names (nodes_at s at))) d o) (left (ap (items_from p s) h)) t.todo; kept = t.kept }
 
   pub parts_end : 14 ≤ p → Put d₀ d o₀ o (write_rule (parts_of part_names (nodes_at s at)))

@@ -2,7 +2,7 @@
 --     part_named     an element is one of the part's, by its name's place;   part_capitals: the part's name from it
 --     Listing    its walk, `search items`
 use Prim.{tt}
-use Rattle.std.specs.Prelude.{◌≡◌, refl, true, List, [], map, ℕ, ◌<◌, eqb, take, get_or}
+use Rattle.std.specs.Prelude.{◌≡◌, refl, true, List, [], map, ℕ, ◌<◌, eqb, take, get_or, None, Some}
 use Rattle.std.proofs.Common.{sym, ap, ◌∙◌, arith, rules}
 use borrow.Author.Tests.{eq-eqb, ne_eqb}
 use Rattle.octets.specs.Pick.{pick}
@@ -21,12 +21,11 @@ use Rattle.xcal.specs.ValueNodes.{items_of}
 use Rattle.read_xml_nodes.specs.NodeFound.{NodeAt}
 use Rattle.read_xml_nodes.specs.laws.NodeFound.{node_none, node_element, node_literal, node_referred, element_onward, literal_onward, referred_onward, node_less}
 use Rattle.read_xml_nodes.specs.declared.Node.{Node}
-use Rattle.read_xml_nodes.specs.declared.NodeKind.TheVariants.{None, Element, Literal, Referred}
+use Rattle.read_xml_nodes.specs.declared.NodeKind.TheVariants.{Absent, Element, Literal, Referred}
 use Rattle.read_xml_value.specs.Parts.{recur_names}
 use Rattle.read_xml_nodes.specs.laws.Walks.{Skips}
 use Rattle.write_text_values.specs.laws.Walking.{Seeking, seek_start, seek_at, seek_past, seek_literal, seek_referred}
 use Rattle.write_text_values.specs.Rules.{part_name, ItemAt}
-use Rattle.write_text_values.specs.declared.rule.ItemFound.TheVariants.{Item, Last}
 
 -- ---- the part of an element
 
@@ -67,7 +66,7 @@ pub item_start : (p : ℕ) (s : List ℕ) (from : ℕ) → Listing p s from from
 item_start p s from = record { walk = seek_start (items_of (part_name p)) s from }
 
 module _ {p : ℕ} {s : List ℕ} {from at : ℕ} {r : Node} (w : Listing p s from at) (d : NodeAt s at r) where
-  pub item_none : r.kind ≡ None → ItemAt p s from Last
+  pub item_none : r.kind ≡ Absent → ItemAt p s from None
   unfolding items_of
   item_none q = record { is = seek_at w.walk (node_none d q); within = tt }
 
@@ -75,17 +74,17 @@ module _ {p : ℕ} {s : List ℕ} {from at : ℕ} {r : Node} (w : Listing p s fr
     named : same (rest 0 (take r.name_end s) r.name) (lower (part_name p)) ≡ eqb k p
     named = part_named p (rest 0 (take r.name_end s) r.name) h ∙ ap (λ (j : ℕ). eqb j p) (sym e)
 
-    pub item_here : k ≡ p → ItemAt p s from (Item r.inside r.next r.name r.name_end)
+    pub item_here : k ≡ p → ItemAt p s from (Some (record { name = r.name; name_end = r.name_end; inside = r.inside; next = r.next }))
     unfolding items_of pick
     item_here z = record {
       is = seek_at w.walk (node_element d q) ∙ rw (named, eq-eqb k p z);
-      within = (
-        d.inside_within,
-        d.next_within,
-        omega (arith, w.walk.onward, element_onward d q),
-        d.name_within,
-        same_true _ _ (named ∙ eq-eqb k p z),
-      );
+      within = record {
+        inside = d.inside_within;
+        next = d.next_within;
+        onward = omega (arith, w.walk.onward, element_onward d q);
+        name = d.name_within;
+        named = same_true _ _ (named ∙ eq-eqb k p z);
+      };
     }
 
     pub item_other : (k ≡ p → ⊥) → Listing p s from r.next

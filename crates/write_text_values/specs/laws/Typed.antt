@@ -4,7 +4,7 @@
 --     Valuing         the invariant of the loop over the values
 --     type_..         the type of a value
 use Prim.{tt}
-use Rattle.std.specs.Prelude.{◌≡◌, refl, Bool, true, false, ℕ, ◌-◌, ◌*◌, ◌^◌, ◌≤◌, ◌<◌, eqb, length, take}
+use Rattle.std.specs.Prelude.{◌≡◌, refl, Bool, true, false, ℕ, ◌-◌, ◌*◌, ◌^◌, ◌≤◌, ◌<◌, eqb, length, take, Option, None, Some, IfSome}
 use Rattle.std.proofs.Math.Path.{ap}
 use Rattle.std.proofs.Common.{subst, ◌∙◌, arith, rules}
 use mathlib.Core.List.{List, [], ◌∷◌, map}
@@ -32,8 +32,8 @@ use Rattle.read_xml_nodes.specs.HeadFound.{HeadAt, NodeEnded}
 use Rattle.read_xml_nodes.specs.laws.HeadFound.{head_none, head_element, head_whole, head_onward, end_onward, head_literal, head_literal_onward, head_referred, head_referred_onward, head_less}
 use Rattle.read_xml_nodes.specs.declared.Ended.{Ended}
 use Rattle.read_xml_nodes.specs.declared.Head.{Head}
-use Rattle.read_xml_nodes.specs.declared.NodeKind.TheVariants.{None, Element, Literal, Referred}
-use Rattle.read_xml_value.specs.ElementTypes.{TypeNamed, IsSmallType}
+use Rattle.read_xml_nodes.specs.declared.NodeKind.TheVariants.{Absent, Element, Literal, Referred}
+use Rattle.read_xml_value.specs.ElementTypes.{TypeNamed}
 use Rattle.read_xml_nodes.specs.laws.Walks.{Skips}
 use Rattle.write_text_values.specs.laws.Walking.{Seeking, seek_start, seek_at, seek_past, seek_literal, seek_referred}
 use Rattle.write_text_values.specs.laws.Children.{put_chars}
@@ -41,10 +41,7 @@ use Rattle.write_text_pieces.specs.Leaves.{value_text}
 use Rattle.write_text_pieces.specs.laws.Leaves.{value_or}
 use Rattle.write_text_pieces.specs.laws.Joining.{following, following_first, following_none, following_more}
 use Rattle.write_text_values.specs.Typed.{values_from, Within, TypedAt}
-use Rattle.read_xml_value.specs.declared.Named.{Named}
-use Rattle.read_xml_value.specs.declared.Named.TheVariants.{«Type» as Known, Bad}
-use Rattle.write_text_values.specs.declared.typed.TypedFound.{TypedFound}
-use Rattle.write_text_values.specs.declared.typed.TypedFound.TheVariants.{Value as Found, Last}
+use Rattle.write_text_values.specs.declared.typed.Typed.{Typed}
 
 -- ---- the walk to a value
 
@@ -56,19 +53,19 @@ pub typed_start : (s : List ℕ) (from : ℕ) → Seeking typed_values s from fr
 typed_start s from = seek_start typed_values s from
 
 module _ {s : List ℕ} {from at : ℕ} {r : Head} (w : Seeking typed_values s from at) (d : HeadAt s at r) where
-  pub typed_none : r.kind ≡ None → TypedAt s from Last
+  pub typed_none : r.kind ≡ Absent → TypedAt s from None
   unfolding typed_values
   typed_none q = record { is = seek_at w (head_none d q); within = tt }
 
-  module _ {m : Named} (q : r.kind ≡ Element) (e : TypeNamed (rest 0 (take r.name_end s) r.name) m) where
-    pub typed_here : {t : ℕ} → m ≡ Known t → TypedAt s from (Found t r.inside r.opens r.next)
+  module _ {m : Option ℕ} (q : r.kind ≡ Element) (e : TypeNamed (rest 0 (take r.name_end s) r.name) m) where
+    pub typed_here : {t : ℕ} → m ≡ Some t → TypedAt s from (Some (record { value_type = t; inside = r.inside; opens = r.opens; next = r.next }))
     unfolding typed_values
     typed_here {t} h = record {
       is = seek_at w (head_element d q) ∙ rw (e.is, h);
-      within = (subst IsSmallType h e.small, d.inside_within, d.next_within, omega (arith, w.onward, head_onward d q));
+      within = record { known = subst (λ (o : Option ℕ). IfSome o (λ u. u ≤ 14)) h e.small; inside = d.inside_within; next = d.next_within; onward = omega (arith, w.onward, head_onward d q) };
     }
 
-    pub typed_other : {x : Ended} → NodeEnded s at r.opens r.next x → m ≡ Bad → Seeking typed_values s from x.next
+    pub typed_other : {x : Ended} → NodeEnded s at r.opens r.next x → m ≡ None → Seeking typed_values s from x.next
     unfolding typed_values
     typed_other y h = seek_past w (head_whole d q y) (rw (e.is, h)) (end_onward d q y)
 
@@ -80,18 +77,12 @@ module _ {s : List ℕ} {from at : ℕ} {r : Head} (w : Seeking typed_values s f
 
 pub ruleset typings = (typed_start, typed_none, typed_here, typed_other, typed_literal, typed_referred, head_less, rules)
 
-module _ {s : List ℕ} {at : ℕ} {r : TypedFound} (f : TypedAt s at r) {t i : ℕ} {o : Bool} {x : ℕ} (h : r ≡ Found t i o x) where
-  found_within : Within s at (Found t i o x)
-  found_within = subst (Within s at) h f.within
+module _ {s : List ℕ} {at : ℕ} {r : Option Typed} (f : TypedAt s at r) {v : Typed} (h : r ≡ Some v) where
+  pub typed_within : Within s at v
+  typed_within = subst (λ (o : Option Typed). IfSome o (Within s at)) h f.within
 
-  pub typed_bounds : (i ≤ length s) × (t ≤ 14)
-  typed_bounds = (found_within.1, found_within.0)
-
-  pub typed_tag : x ≤ length s
-  typed_tag = found_within.2
-
-  pub typed_less : {y : Ended} → NodeEnded s at o x y → length s - y.next < length s - at
-  typed_less d = let b = found_within.3 in omega (arith, b, d.onward, d.within)
+  pub typed_less : {y : Ended} → NodeEnded s at v.opens v.next y → length s - y.next < length s - at
+  typed_less d = let b = typed_within.onward in omega (arith, b, d.onward, d.within)
 
 -- ---- PERIOD and RECUR by their numbers
 
@@ -156,13 +147,13 @@ pub values_start : (s : List ℕ) (from : ℕ) (d : List ℕ) (o : ℕ) → leng
 unfolding write_values
 values_start s from d o z = record { todo = rw (following_first 44 (texts_of s from)) (todo_all d o (joined_by 44 (texts_of s from)) z); kept = refl }
 
-module _ {s : List ℕ} {from : ℕ} {d₀ : List ℕ} {o₀ : ℕ} {d : List ℕ} {o c : ℕ} {b : Bool} {r : TypedFound} (v : Valuing s from d₀ o₀ d o c b) (f : TypedAt s c r) where
-  pub values_more : {t i : ℕ} {a : Bool} {x : ℕ} {y : Ended} {d' : List ℕ} {q : ℕ} → r ≡ Found t i a x → NodeEnded s c a x y → Put d d' o q (pick b (44 ∷ []) [] ⊕ write_value (value_of (type_at t) (nodes_at s i))) → Valuing s from d₀ o₀ d' q y.next true
+module _ {s : List ℕ} {from : ℕ} {d₀ : List ℕ} {o₀ : ℕ} {d : List ℕ} {o c : ℕ} {b : Bool} {r : Option Typed} (v : Valuing s from d₀ o₀ d o c b) (f : TypedAt s c r) where
+  pub values_more : {u : Typed} {y : Ended} {d' : List ℕ} {q : ℕ} → r ≡ Some u → NodeEnded s c u.opens u.next y → Put d d' o q (pick b (44 ∷ []) [] ⊕ write_value (value_of (type_at u.value_type) (nodes_at s u.inside))) → Valuing s from d₀ o₀ d' q y.next true
   unfolding ◌⊕◌
-  values_more {t} {i} {y = y} h n w = record {
-    todo = todo_step v.todo w (ap (λ (l : List Value). following b 44 (map write_value l)) (f.is ∙ ap (values_from s) h ∙ ap (λ (ns : Nodes). value_of (type_at t) (nodes_at s i) ∷ typed_values ns) n.after) ∙ following_more b 44 (write_value (value_of (type_at t) (nodes_at s i))) (texts_of s y.next));
+  values_more {u} {y = y} h n w = record {
+    todo = todo_step v.todo w (ap (λ (l : List Value). following b 44 (map write_value l)) (f.is ∙ ap (values_from s) h ∙ ap (λ (ns : Nodes). value_of (type_at u.value_type) (nodes_at s u.inside) ∷ typed_values ns) n.after) ∙ following_more b 44 (write_value (value_of (type_at u.value_type) (nodes_at s u.inside))) (texts_of s y.next));
     kept = put_length w ∙ v.kept;
   }
 
-  pub values_end : r ≡ Last → Put d₀ d o₀ o (write_values (typed_values (nodes_at s from)))
+  pub values_end : r ≡ None → Put d₀ d o₀ o (write_values (typed_values (nodes_at s from)))
   values_end h = todo_done v.todo (ap (λ (l : List Value). following b 44 (map write_value l)) (f.is ∙ ap (values_from s) h) ∙ following_none b 44)

@@ -4,13 +4,12 @@
 --     put_parameter, put_value_name, put_other_name     a parameter
 --     least_value, least_own            a slice cut at its length, or before
 --     put_unread, put_only, put_shown   the element `parameters`, or nothing
-use Rattle.std.specs.Prelude.{◌≡◌, Bool, ℕ, ◌*◌, ◌^◌, min, ◌<◌, length, take}
+use Rattle.std.specs.Prelude.{◌≡◌, Bool, ℕ, ◌*◌, ◌^◌, min, ◌<◌, length, take, Option, None, Some, Result, Ok, Err}
 use Rattle.std.proofs.Math.Path.{refl}
 use Rattle.std.proofs.Common.{sym, ap, ◌∙◌, subst, eq-eqb, ne_eqb}
 use Rattle.std.proofs.Math.Bool.{true, false}
 use Rattle.std.proofs.lemmas.Bool.{false≢true}
 use mathlib.Core.List.{List, [], ◌∷◌, map}
-use Rattle.std.proofs.Math.Option.{Option, none, some}
 use Rattle.octets.specs.Ascii.{ascii}
 use Rattle.octets.specs.laws.Scan.{take_least}
 use Rattle.octets.specs.Append.{◌⊕◌, joined}
@@ -35,11 +34,12 @@ use Rattle.values.specs.ReadValue.{read_value}
 use Rattle.read_text_line.specs.ContentLine.{ParamValue, RawParameter, param_value, next_value}
 use Rattle.read_text_line.specs.Items.{items}
 use Rattle.read_text_line.specs.Decoded.{decoded_value, decoded_parameter}
-use Rattle.read_text_line.specs.Cursor.{values_of, values_at}
+use Rattle.read_text_line.specs.Cursor.{values_of, values_at, there}
 use Rattle.read_text_line.specs.laws.Repeating.{item_bad}
 use Rattle.read_text_line.specs.Values.{ValueAt}
-use Rattle.read_text_line.specs.laws.Values.{value_there, value_first, value_chars}
-use Rattle.read_text_line.specs.declared.ParamAt.{ParamAt}
+use Rattle.read_text_line.specs.laws.Values.{value_first, value_chars}
+use Rattle.read_text_line.specs.declared.Malformed.{Malformed}
+use Rattle.read_text_line.specs.declared.ValueCursors.{ValueCursors}
 use Rattle.xml.specs.Escape.{start_tag, end_tag, element_of}
 use Rattle.text.specs.Parameters.{read_parameter, own_parameters, read_parameters}
 use Rattle.xcal.specs.WriteXml.{value_xml, parameters_xml, parameters_element}
@@ -71,15 +71,15 @@ module _ {d e : List ℕ} {o r : ℕ} (q : ℕ) (l : List ℕ) {t : Bool} (h : t
 
 -- ---- the values of a parameter
 
-module _ (ed : Edition) (p : ParameterRow) {m : ℕ} {s : List ℕ} {c : ℕ} {r : ParamAt} (y : cuts m ≡ true) (v : ValueAt param_value m s c r) {d : List ℕ} {o : ℕ} where
-  pub put_first : {e f : List ℕ} {a n : ℕ} → r.ok ≡ true → Put d e o a (value_shown p (decode ed (rest m (take r.to s) r.from))) →
-      Put e f a n (joined (map (chars_in ed p) (items next_value (rest m s r.next)))) → Put d f o n (joined (map (chars_in ed p) (values_at m s c)))
+module _ (ed : Edition) (p : ParameterRow) {m : ℕ} {s : List ℕ} {c : ℕ} {r : Result ValueCursors Malformed} (y : cuts m ≡ true) (v : ValueAt param_value m s c (there r)) {d : List ℕ} {o : ℕ} where
+  pub put_first : {u : ValueCursors} {e f : List ℕ} {a n : ℕ} → r ≡ Ok u → Put d e o a (value_shown p (decode ed (rest m (take u.to s) u.from))) →
+      Put e f a n (joined (map (chars_in ed p) (items next_value (rest m s u.next)))) → Put d f o n (joined (map (chars_in ed p) (values_at m s c)))
   unfolding joined
-  put_first {e} {f} {a} {n} h x w = rw (value_first v h) (subst (λ (l : List ℕ). Put d e o a (value_shown p (decode ed l))) (value_chars y v (value_there v)) x ▷ w)
+  put_first {u} {e} {f} {a} {n} h x w = rw (value_first v (ap there h)) (subst (λ (l : List ℕ). Put d e o a (value_shown p (decode ed l))) (value_chars y v (ap there h)) x ▷ w)
 
-  pub put_no_first : r.ok ≡ false → length d * 1 < 2 ^ 63 → Put d d o o (joined (map (chars_in ed p) (values_at m s c)))
+  pub put_no_first : {x : Malformed} → r ≡ Err x → length d * 1 < 2 ^ 63 → Put d d o o (joined (map (chars_in ed p) (values_at m s c)))
   unfolding joined values_of
-  put_no_first h z = rw (item_bad v.item (value_there v) h) (put_none d o z)
+  put_no_first h z = rw (item_bad v.item (ap there h)) (put_none d o z)
 
 -- ---- a parameter
 
@@ -118,8 +118,8 @@ module _ {d : List ℕ} {o : ℕ} (ed : Edition) (rs : List RawParameter) {t : B
   put_unread k z = go (read_parameters (map (decoded_parameter ed) rs)) (sym h ∙ k)
     where
       go : (q : Option (List Parameter)) → is_read q ≡ false → Put d d o o (parameters_element (read_or [] q))
-      go none e = put_none d o z
-      go (some ps) e = absurd (false≢true (sym e))
+      go None e = put_none d o z
+      go (Some ps) e = absurd (false≢true (sym e))
 
   module _ {u : Bool} (i : u ≡ is_empty (own_parameters rs)) (k : t ≡ true) where
     pub put_only : u ≡ true → length d * 1 < 2 ^ 63 → Put d d o o (parameters_element (read_or [] (read_parameters (map (decoded_parameter ed) rs))))
@@ -131,8 +131,8 @@ module _ {d : List ℕ} {o : ℕ} (ed : Edition) (rs : List RawParameter) {t : B
         all (p ∷ ps) e = absurd (false≢true e)
 
         go : (q : Option (List Parameter)) → read_parameters (map (decoded_parameter ed) rs) ≡ q → Put d d o o (parameters_element (read_or [] q))
-        go none e = put_none d o z
-        go (some ps) e = all ps (each_empty read_parameter (own_parameters (map (decoded_parameter ed) rs)) ps e ∙ own_none ed rs ∙ sym i ∙ w)
+        go None e = put_none d o z
+        go (Some ps) e = all ps (each_empty read_parameter (own_parameters (map (decoded_parameter ed) rs)) ps e ∙ own_none ed rs ∙ sym i ∙ w)
 
     pub put_shown : {e : List ℕ} {r : ℕ} → u ≡ false → Put d e o r (element_of (ascii "parameters") (parameters_shown (map (decoded_parameter ed) rs))) →
         Put d e o r (parameters_element (read_or [] (read_parameters (map (decoded_parameter ed) rs))))
@@ -144,5 +144,5 @@ module _ {d : List ℕ} {o : ℕ} (ed : Edition) (rs : List RawParameter) {t : B
         all (q ∷ ps) x y = rw (← y) p
 
         go : (q : Option (List Parameter)) → read_parameters (map (decoded_parameter ed) rs) ≡ q → is_read q ≡ true → Put d e o r (parameters_element (read_or [] q))
-        go none x y = absurd (false≢true y)
-        go (some ps) x y = all ps (each_empty read_parameter (own_parameters (map (decoded_parameter ed) rs)) ps x ∙ own_none ed rs ∙ sym i ∙ w) (shown_is (map (decoded_parameter ed) rs) ps x)
+        go None x y = absurd (false≢true y)
+        go (Some ps) x y = all ps (each_empty read_parameter (own_parameters (map (decoded_parameter ed) rs)) ps x ∙ own_none ed rs ∙ sym i ∙ w) (shown_is (map (decoded_parameter ed) rs) ps x)

@@ -1,9 +1,7 @@
 -- Laws of what specs/Shown.antt defines.
 --     shown_is                       of parameters that are readable it is the XML of what they state
-use Rattle.std.specs.Prelude.{◌≡◌, refl, Bool, true, false, not, List, [], ◌∷◌, map, ℕ}
+use Rattle.std.specs.Prelude.{◌≡◌, refl, Bool, true, false, not, List, [], ◌∷◌, map, ℕ, Option, None, Some, option_map}
 use Rattle.std.proofs.Common.{ap, ◌∙◌}
-use Rattle.std.proofs.Math.Option
-use Rattle.std.proofs.Math.Option.{Option, none, some}
 use Rattle.octets.specs.Pick.{pick, ◌and◌, ◌or◌}
 use Rattle.octets.specs.Append.{◌⊕◌, joined}
 use Rattle.octets.specs.laws.Append.{append_empty}
@@ -24,8 +22,8 @@ use Rattle.write_xml_parameters.specs.Shown.{value_shown, chars_shown, shown, pa
 -- ---- each of a list, read and written
 
 -- what is written of each is what is written of what it was read as
-pub each_written : {A B : Type 0} (reading : A → Option B) (f : A → List ℕ) (g : B → List ℕ) → ((a : A) (b : B) → reading a ≡ some b → f a ≡ g b) →
-    (l : List A) (r : List B) → read_each reading l ≡ some r → joined (map f l) ≡ joined (map g r)
+pub each_written : {A B : Type 0} (reading : A → Option B) (f : A → List ℕ) (g : B → List ℕ) → ((a : A) (b : B) → reading a ≡ Some b → f a ≡ g b) →
+    (l : List A) (r : List B) → read_each reading l ≡ Some r → joined (map f l) ≡ joined (map g r)
 unfolding read_each joined
 each_written reading f g k [] r h = let z : [] ≡ r = cc in rw (← z)
 each_written reading f g k (a ∷ l) r h =
@@ -45,50 +43,50 @@ parameters_joined (p ∷ ps) = rw (parameters_joined ps)
 
 -- ---- what is readable
 
-value_is : (n : List ℕ) (v : ParamValue) (x : Value) → read_param_value n v ≡ some x → chars_shown (parameter_row n) v ≡ value_xml x
+value_is : (n : List ℕ) (v : ParamValue) (x : Value) → read_param_value n v ≡ Some x → chars_shown (parameter_row n) v ≡ value_xml x
 unfolding value_shown read_param_value pick is_read
 value_is n v x h = quotes (not v.quoted and is_quoted_parameter n) h
   where
     s : List ℕ
     s = v.chars
 
-    other : (t : Bool) → pick t (some (unknown s)) (read_value ical (parameter_type n) s) ≡ some x →
+    other : (t : Bool) → pick t (Some (unknown s)) (read_value ical (parameter_type n) s) ≡ Some x →
         pick t (value_xml (unknown s)) (or_nothing value_xml (read_value ical (parameter_type n) s)) ≡ value_xml x
     other true h = let z : unknown s ≡ x = cc in rw z
     other false h = rw h
 
-    typed : (t : Bool) → pick t (some (text s)) (pick (same_type (parameter_type n) UNKNOWN) (some (unknown s)) (read_value ical (parameter_type n) s)) ≡ some x →
+    typed : (t : Bool) → pick t (Some (text s)) (pick (same_type (parameter_type n) UNKNOWN) (Some (unknown s)) (read_value ical (parameter_type n) s)) ≡ Some x →
         pick t (value_xml (text s)) (pick (same_type (parameter_type n) UNKNOWN) (value_xml (unknown s)) (or_nothing value_xml (read_value ical (parameter_type n) s))) ≡ value_xml x
     typed true h = let z : text s ≡ x = cc in rw z
     typed false h = other (same_type (parameter_type n) UNKNOWN) h
 
-    word : (o : Option (List (List ℕ))) → read_word o (parameter_type n) s ≡ some x →
+    word : (o : Option (List (List ℕ))) → read_word o (parameter_type n) s ≡ Some x →
         pick (is_read o) (value_xml (text (upper s)))
         (pick (same_type (parameter_type n) TEXT) (value_xml (text s))
         (pick (same_type (parameter_type n) UNKNOWN) (value_xml (unknown s)) (or_nothing value_xml (read_value ical (parameter_type n) s)))) ≡ value_xml x
-    word none h = typed (same_type (parameter_type n) TEXT) h
-    word (some ws) h = ap value_xml (provided-some (is_one_of (upper s) ws) (text (upper s)) x h).1
+    word None h = typed (same_type (parameter_type n) TEXT) h
+    word (Some ws) h = ap value_xml (provided-some (is_one_of (upper s) ws) (text (upper s)) x h).1
 
-    quotes : (t : Bool) → pick t none (read_word (parameter_words n) (parameter_type n) s) ≡ some x → chars_shown (parameter_row n) v ≡ value_xml x
+    quotes : (t : Bool) → pick t None (read_word (parameter_words n) (parameter_type n) s) ≡ Some x → chars_shown (parameter_row n) v ≡ value_xml x
     quotes true h = none-some h
     quotes false h = word (parameter_words n) h
 
-parameter_is : (r : RawParameter) (p : Parameter) → read_parameter r ≡ some p → shown r ≡ parameter_xml p
+parameter_is : (r : RawParameter) (p : Parameter) → read_parameter r ≡ Some p → shown r ≡ parameter_xml p
 unfolding read_parameter parameter_xml pick
 parameter_is r p h = go (is_listed_parameter n or is_single r.values) h
   where
     n : List ℕ
     n = upper r.name
 
-    of : (o : Option (List Value)) → read_each (read_param_value n) r.values ≡ o → Option.map (λ vs. record { name = n; values = vs }) o ≡ some p →
+    of : (o : Option (List Value)) → read_each (read_param_value n) r.values ≡ o → option_map (λ vs. record { name = n; values = vs }) o ≡ Some p →
         shown r ≡ parameter_xml p
-    of none e h = none-some h
-    of (some vs) e h =
+    of None e h = none-some h
+    of (Some vs) e h =
         let z : ◌≡◌ {A = Parameter} (record { name = n; values = vs }) p = cc in
         let q = each_written (read_param_value n) (chars_shown (parameter_row n)) value_xml (value_is n) r.values vs e in
         rw (← z, lower_any_case r.name, ← (values_joined vs), q)
 
-    go : (t : Bool) → pick t (Option.map (λ vs. record { name = n; values = vs }) (read_each (read_param_value n) r.values)) none ≡ some p →
+    go : (t : Bool) → pick t (option_map (λ vs. record { name = n; values = vs }) (read_each (read_param_value n) r.values)) None ≡ Some p →
         shown r ≡ parameter_xml p
     go true h = of (read_each (read_param_value n) r.values) refl h
     go false h = none-some h
@@ -103,5 +101,5 @@ own_joined (r ∷ rs) = go (is_value_parameter r) (own_joined rs)
     go true e = append_empty (parameters_shown rs) ∙ e
     go false e = ap (λ (l : List ℕ). shown r ⊕ l) e
 
-pub shown_is : (rs : List RawParameter) (ps : List Parameter) → read_parameters rs ≡ some ps → parameters_shown rs ≡ parameters_xml ps
+pub shown_is : (rs : List RawParameter) (ps : List Parameter) → read_parameters rs ≡ Some ps → parameters_shown rs ≡ parameters_xml ps
 shown_is rs ps h = own_joined rs ∙ each_written read_parameter shown parameter_xml parameter_is (own_parameters rs) ps h ∙ parameters_joined ps

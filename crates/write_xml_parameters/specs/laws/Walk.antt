@@ -4,7 +4,7 @@
 --     value_written, values_over, values_fault     over the values of a parameter
 --     param_written, params_over, params_fault     over the parameters of a line
 --     only_more, only_stop, only_over, only_fault  over the parameters of a line, as long as they are VALUE;   own_none: in any edition
-use Rattle.std.specs.Prelude.{◌≡◌, refl, Bool, true, false, List, [], ◌∷◌, map, ℕ, ◌*◌, ◌^◌, ◌<◌, length, take}
+use Rattle.std.specs.Prelude.{◌≡◌, refl, Bool, true, false, List, [], ◌∷◌, map, ℕ, ◌*◌, ◌^◌, ◌<◌, length, take, Option, None, Some, Result, Ok, Err}
 use Rattle.std.proofs.Math.Path.{sym}
 use Rattle.std.proofs.Common.{◌∙◌, subst, ap}
 use Rattle.octets.specs.Ascii.{ascii}
@@ -25,9 +25,10 @@ use Rattle.read_text_line.specs.Cursor.{params_at}
 use Rattle.read_text_line.specs.Values.{ValueAt}
 use Rattle.read_text_line.specs.laws.Values.{value_chars, value_more, value_over, value_fault}
 use Rattle.read_text_line.specs.Params.{ParamOf}
-use Rattle.read_text_line.specs.laws.Params.{name_chars, param_more, param_over, param_fault}
-use Rattle.read_text_line.specs.declared.ParamAt.{ParamAt}
-use Rattle.read_text_line.specs.declared.ParamRead.{ParamRead}
+use Rattle.read_text_line.specs.laws.Params.{name_chars, param_more, param_parts, param_over, param_fault}
+use Rattle.read_text_line.specs.declared.Malformed.{Malformed}
+use Rattle.read_text_line.specs.declared.ValueCursors.{ValueCursors}
+use Rattle.read_text_line.specs.declared.ParameterCursors.{ParameterCursors}
 use Rattle.text.specs.Parameters.{own_parameters}
 use Rattle.read_text_parameters.specs.Cutting.{param_cut, param_read}
 use Rattle.write_xml_parameters.specs.Shown.{value_shown, chars_in, own_shown}
@@ -50,35 +51,35 @@ module _ {A : Type 0} {f : A → List ℕ} {d₀ : List ℕ} {at₀ : ℕ} {all 
 
 -- ---- the values that follow the first
 
-module _ (ed : Edition) (p : ParameterRow) {d₀ : List ℕ} {at₀ : ℕ} {all : List ParamValue} {d : List ℕ} {at n : ℕ} {s : List ℕ} {c : ℕ} {r : ParamAt}
+module _ (ed : Edition) (p : ParameterRow) {d₀ : List ℕ} {at₀ : ℕ} {all : List ParamValue} {d : List ℕ} {at n : ℕ} {s : List ℕ} {c : ℕ} {r : Result (Option ValueCursors) Malformed}
     (y : cuts n ≡ true) (t : Writing (chars_in ed p) d₀ at₀ all d at (items next_value (rest n s c))) (v : ValueAt next_value n s c r) where
-  pub value_written : {e : List ℕ} {m : ℕ} → r.there ≡ true → r.ok ≡ true → Put d e at m (value_shown p (decode ed (rest n (take r.to s) r.from))) →
-      Writing (chars_in ed p) d₀ at₀ all e m (items next_value (rest n s r.next))
-  value_written {e} {m} h k w = writing_more t _ _ (value_more v h k) (subst (λ (x : List ℕ). Put d e at m (value_shown p (decode ed x))) (value_chars y v h) w)
+  pub value_written : {a : ValueCursors} {e : List ℕ} {m : ℕ} → r ≡ Ok (Some a) → Put d e at m (value_shown p (decode ed (rest n (take a.to s) a.from))) →
+      Writing (chars_in ed p) d₀ at₀ all e m (items next_value (rest n s a.next))
+  value_written {a} {e} {m} h w = writing_more t _ _ (value_more v h) (subst (λ (x : List ℕ). Put d e at m (value_shown p (decode ed x))) (value_chars y v h) w)
 
-  pub values_over : r.there ≡ false → Put d₀ d at₀ at (joined (map (chars_in ed p) all))
+  pub values_over : r ≡ Ok None → Put d₀ d at₀ at (joined (map (chars_in ed p) all))
   values_over h = writing_end t (value_over v h)
 
-  pub values_fault : r.there ≡ true → r.ok ≡ false → Put d₀ d at₀ at (joined (map (chars_in ed p) all))
-  values_fault h k = writing_end t (value_fault v h k)
+  pub values_fault : {x : Malformed} → r ≡ Err x → Put d₀ d at₀ at (joined (map (chars_in ed p) all))
+  values_fault h = writing_end t (value_fault v h)
 
 -- ---- the parameters of a line
 
-module _ {n : ℕ} {s : List ℕ} {c : ℕ} {r : ParamRead} (y : cuts n ≡ true) (a : ParamOf next_param n s c r) (h : r.there ≡ true) (k : r.ok ≡ true) where
-  pub cut_more : params_at n s c ≡ param_cut n s r.name r.end r.first ∷ params_at n s r.next
-  cut_more = param_more a h k ∙ rw (name_chars y (a.named h k))
+module _ {n : ℕ} {s : List ℕ} {c : ℕ} {r : Result (Option ParameterCursors) Malformed} (y : cuts n ≡ true) (a : ParamOf next_param n s c r) {p : ParameterCursors} (h : r ≡ Ok (Some p)) where
+  pub cut_more : params_at n s c ≡ param_cut n s p.name p.end p.first ∷ params_at n s p.next
+  cut_more = param_more a h ∙ rw (name_chars y (param_parts a h).named)
 
-module _ (ed : Edition) {d₀ : List ℕ} {at₀ : ℕ} {all : List RawParameter} {d : List ℕ} {at n : ℕ} {s : List ℕ} {c : ℕ} {r : ParamRead}
+module _ (ed : Edition) {d₀ : List ℕ} {at₀ : ℕ} {all : List RawParameter} {d : List ℕ} {at n : ℕ} {s : List ℕ} {c : ℕ} {r : Result (Option ParameterCursors) Malformed}
     (y : cuts n ≡ true) (t : Writing own_shown d₀ at₀ all d at (params_in ed n s c)) (a : ParamOf next_param n s c r) where
-  pub param_written : {e : List ℕ} {m : ℕ} → r.there ≡ true → r.ok ≡ true → Put d e at m (own_shown (param_read ed n s r.name r.end r.first)) →
-      Writing own_shown d₀ at₀ all e m (params_in ed n s r.next)
-  param_written h k w = writing_more t _ _ (ap (map (decoded_parameter ed)) (cut_more y a h k)) w
+  pub param_written : {p : ParameterCursors} {e : List ℕ} {m : ℕ} → r ≡ Ok (Some p) → Put d e at m (own_shown (param_read ed n s p.name p.end p.first)) →
+      Writing own_shown d₀ at₀ all e m (params_in ed n s p.next)
+  param_written h w = writing_more t _ _ (ap (map (decoded_parameter ed)) (cut_more y a h)) w
 
-  pub params_over : r.there ≡ false → Put d₀ d at₀ at (joined (map own_shown all))
+  pub params_over : r ≡ Ok None → Put d₀ d at₀ at (joined (map own_shown all))
   params_over h = writing_end t (ap (map (decoded_parameter ed)) (param_over a h))
 
-  pub params_fault : r.there ≡ true → r.ok ≡ false → Put d₀ d at₀ at (joined (map own_shown all))
-  params_fault h k = writing_end t (ap (map (decoded_parameter ed)) (param_fault a h k))
+  pub params_fault : {x : Malformed} → r ≡ Err x → Put d₀ d at₀ at (joined (map own_shown all))
+  params_fault h = writing_end t (ap (map (decoded_parameter ed)) (param_fault a h))
 
 -- ---- whether there is one besides VALUE, which is the same in every edition
 
@@ -92,20 +93,20 @@ own_none ed (r ∷ rs) = go (same (upper r.name) (ascii "VALUE")) (own_none ed r
     go true h = h
     go false h = refl
 
-module _ {n : ℕ} {s : List ℕ} {c : ℕ} {v : Bool} {r : ParamRead} (y : cuts n ≡ true) (e : v ≡ is_empty (own_parameters (params_at n s c))) (a : ParamOf next_param n s c r) where
-  module _ {t : Bool} (h : r.there ≡ true) (k : r.ok ≡ true) (q : t ≡ same (upper (rest n (take r.end s) r.name)) (ascii "VALUE")) where
-    pub only_more : t ≡ true → v ≡ is_empty (own_parameters (params_at n s r.next))
+module _ {n : ℕ} {s : List ℕ} {c : ℕ} {v : Bool} {r : Result (Option ParameterCursors) Malformed} (y : cuts n ≡ true) (e : v ≡ is_empty (own_parameters (params_at n s c))) (a : ParamOf next_param n s c r) where
+  module _ {t : Bool} {p : ParameterCursors} (h : r ≡ Ok (Some p)) (q : t ≡ same (upper (rest n (take p.end s) p.name)) (ascii "VALUE")) where
+    pub only_more : t ≡ true → v ≡ is_empty (own_parameters (params_at n s p.next))
     unfolding own_parameters pick
-    only_more z = e ∙ rw (cut_more y a h k, ← q, z)
+    only_more z = e ∙ rw (cut_more y a h, ← q, z)
 
     pub only_stop : t ≡ false → false ≡ v
     unfolding own_parameters pick
-    only_stop z = sym (e ∙ rw (cut_more y a h k, ← q, z))
+    only_stop z = sym (e ∙ rw (cut_more y a h, ← q, z))
 
-  pub only_over : r.there ≡ false → true ≡ v
+  pub only_over : r ≡ Ok None → true ≡ v
   unfolding own_parameters
   only_over h = sym (e ∙ rw (param_over a h))
 
-  pub only_fault : r.there ≡ true → r.ok ≡ false → true ≡ v
+  pub only_fault : {x : Malformed} → r ≡ Err x → true ≡ v
   unfolding own_parameters
-  only_fault h k = sym (e ∙ rw (param_fault a h k))
+  only_fault h = sym (e ∙ rw (param_fault a h))

@@ -1,9 +1,8 @@
 -- Laws of what specs/Geo.antt defines.
 --     geo_xml            what is read, written number by number
-use Rattle.std.specs.Prelude.{◌≡◌, refl, true, List, ℕ, ◌*◌, ◌^◌, ◌<◌, length}
+use Rattle.std.specs.Prelude.{◌≡◌, refl, true, List, ℕ, ◌*◌, ◌^◌, ◌<◌, length, Option, None, Some}
 use Rattle.std.proofs.Common.{sym, ap, ◌∙◌}
 use Rattle.std.proofs.lemmas.Bool.{false≢true}
-use Rattle.std.proofs.Math.Option.{Option, none, some}
 use Rattle.octets.specs.Ascii.{ascii}
 use Rattle.octets.specs.Append.{◌⊕◌}
 use Rattle.octets.specs.Reading.{and_then, is_read, or_nothing}
@@ -15,8 +14,6 @@ use Rattle.numbers.specs.Float.{read_float, write_float}
 use Rattle.numbers.specs.Until.{until}
 use Rattle.numbers.specs.Geo.{read_geo}
 use Rattle.numbers.specs.ReadGeo.{both_of, ReadsGeo}
-use Rattle.numbers.specs.declared.geo.GeoRead.{GeoRead}
-use Rattle.numbers.specs.declared.geo.GeoRead.TheVariants.{At, Bad}
 use Rattle.xml.specs.Escape.{element_of}
 use Rattle.values.specs.laws.Bare.{float_bare}
 use Rattle.xcal.specs.WriteXml.{value_xml}
@@ -30,19 +27,19 @@ both_xml x y = go (read_float x) (read_float y) refl refl
   where
     go : (a b : Option Decimal) → read_float x ≡ a → read_float y ≡ b → is_read (both_of a b) ≡ true →
         or_nothing value_xml (both_of a b) ≡ element_of (ascii "latitude") (or_nothing write_float a) ⊕ element_of (ascii "longitude") (or_nothing write_float b)
-    go none b e f h = absurd (false≢true h)
-    go (some la) none e f h = absurd (false≢true h)
-    go (some la) (some lo) e f h = rw (float_bare x la e, float_bare y lo f)
+    go None b e f h = absurd (false≢true h)
+    go (Some la) None e f h = absurd (false≢true h)
+    go (Some la) (Some lo) e f h = rw (float_bare x la e, float_bare y lo f)
 
-pub geo_xml : {m : ℕ} {s : List ℕ} {c g : ℕ} → ReadsGeo m s c (At g) → or_nothing value_xml (read_geo (rest m s c)) ≡ coordinates_xml m s c g
+pub geo_xml : {m : ℕ} {s : List ℕ} {c g : ℕ} → ReadsGeo m s c (Some g) → or_nothing value_xml (read_geo (rest m s c)) ≡ coordinates_xml m s c g
 geo_xml {m} {s} {c} {g} r =
     ap (or_nothing value_xml) r.is ∙ both_xml (until 59 m s c) (rest m s g) (ap is_read (sym r.is) ∙ r.good)
 
 -- ---- rules for the code
 
-module _ {d : List ℕ} {at m : ℕ} {s : List ℕ} {c : ℕ} {r : GeoRead} (t : ReadsGeo m s c r) where
-  pub put_geo : {e : List ℕ} {o : ℕ} (g : ℕ) → r ≡ At g → Put d e at o (coordinates_xml m s c g) → Put d e at o (or_nothing value_xml (read_geo (rest m s c)))
-  put_geo g h w = let k : ReadsGeo m s c (At g) = rw h at t in rw (geo_xml k) w
+module _ {d : List ℕ} {at m : ℕ} {s : List ℕ} {c : ℕ} {r : Option ℕ} (t : ReadsGeo m s c r) where
+  pub put_geo : {e : List ℕ} {o : ℕ} (g : ℕ) → r ≡ Some g → Put d e at o (coordinates_xml m s c g) → Put d e at o (or_nothing value_xml (read_geo (rest m s c)))
+  put_geo g h w = let k : ReadsGeo m s c (Some g) = rw h at t in rw (geo_xml k) w
 
-  pub put_no_geo : r ≡ Bad → length d * 1 < 2 ^ 63 → Put d d at at (or_nothing value_xml (read_geo (rest m s c)))
-  put_no_geo h z = let k : ReadsGeo m s c Bad = rw h at t in rw k.is (put_none d at z)
+  pub put_no_geo : r ≡ None → length d * 1 < 2 ^ 63 → Put d d at at (or_nothing value_xml (read_geo (rest m s c)))
+  put_no_geo h z = let k : ReadsGeo m s c None = rw h at t in rw k.is (put_none d at z)

@@ -2,9 +2,8 @@
 --     values_at  the values that are read;   values_at_lem: they are those of the names
 --     property_of_place   the property that a line states is that of the component's number
 --     component_again     the number of the name of a number
-use Rattle.std.specs.Prelude.{◌≡◌, refl, List, [], ℕ, ◌≤◌, ◌<◌, eqb}
+use Rattle.std.specs.Prelude.{◌≡◌, refl, List, [], ℕ, ◌≤◌, ◌<◌, eqb, Option, None}
 use Rattle.std.proofs.Common.{sym, ap, ◌∙◌, arith, ne_eqb}
-use Rattle.std.proofs.Math.Option.{Option, none}
 use Rattle.std.proofs.Math.Decide.{dec_le}
 use Rattle.std.proofs.Math.ListN.{get_or-eq_default}
 use Rattle.octets.specs.Pick.{pick}
@@ -36,7 +35,7 @@ own_at k row t l =
     (pick row.listed (read_listed t l) (one_value (read_chosen (words_at k row.number) t l))))
 
 abbrev pub values_at : ℕ → Row → ValueType → List ℕ → Option (List Value)
-values_at k row t l = pick (permits_type row (type_place t)) (own_at k row t l) none
+values_at k row t l = pick (permits_type row (type_place t)) (own_at k row t l) None
 
 -- ---- names by their numbers
 

@@ -2,12 +2,11 @@
 --     put_recur, put_no_recur     RECUR
 --     put_plain, put_no_plain     a type that has character data
 --     put_at                      the type by its number
-use Rattle.std.specs.Prelude.{◌≡◌, Bool, List, [], ℕ, zero, suc}
+use Rattle.std.specs.Prelude.{◌≡◌, Bool, List, [], ℕ, zero, suc, Option, None, Some, option_map, is_some}
 use Rattle.std.proofs.Math.Path.{refl, ap}
 use Rattle.std.proofs.Common.{sym, ◌∙◌}
 use Rattle.std.proofs.Math.Bool.{true, false}
 use Rattle.std.proofs.lemmas.Bool.{false≢true}
-use Rattle.std.proofs.Math.Option.{Option, none, some, map}
 use Rattle.octets.specs.Ascii.{ascii}
 use Rattle.octets.specs.Class.{lower}
 use Rattle.octets.specs.Words.{cut_at}
@@ -34,12 +33,8 @@ use Rattle.texts.specs.Unknown.{read_unknown}
 use Rattle.recur.specs.Parts.{part_names}
 use Rattle.recur.specs.Rule.{read_rule}
 use Rattle.recur.specs.Noted.{Parted}
-use Rattle.recur.specs.declared.rule.RuleParts.{RuleParts}
 use Rattle.values.specs.ReadValue.{read_value}
 use Rattle.values.specs.WriteValue.{value_characters}
-use Rattle.values.specs.laws.ValueAt.{is_good}
-use Rattle.values.specs.declared.ValueRead.{ValueRead}
-use Rattle.values.specs.declared.ValueRead.TheVariants as value
 use Rattle.xml.specs.Escape.{escaped, element_of}
 use Rattle.xcal.specs.WriteXml.{value_xml}
 use Rattle.write_xml_value.specs.Tags.{type_label}
@@ -49,22 +44,22 @@ use Rattle.write_xml_value.specs.laws.PutRule.{nothing_read}
 
 -- ---- RECUR
 
-module _ {d e : List ℕ} {o q : ℕ} {m : ℕ} {s : List ℕ} {c : ℕ} {r : RuleParts} (p : Parted m s c r) where
-  pub put_recur : r.good ≡ true → Put d e o q (element_of (ascii "recur") (named_xml part_names (cut_at 59 (rest m s c)))) → Put d e o q (or_nothing value_xml (read_value ical RECUR (rest m s c)))
+module _ {d e : List ℕ} {o q : ℕ} {m : ℕ} {s : List ℕ} {c : ℕ} {r : Option (List (Option ℕ))} (p : Parted m s c r) where
+  pub put_recur : {t : List (Option ℕ)} → r ≡ Some t → Put d e o q (element_of (ascii "recur") (named_xml part_names (cut_at 59 (rest m s c)))) → Put d e o q (or_nothing value_xml (read_value ical RECUR (rest m s c)))
   unfolding read_value value_xml is_read
-  put_recur h w = go (read_rule (rest m s c)) refl (p.is ∙ h)
+  put_recur h w = go (read_rule (rest m s c)) refl (p.is ∙ ap is_some h)
     where
-      go : (u : Option (List RulePart)) → read_rule (rest m s c) ≡ u → is_read u ≡ true → Put d e o q (or_nothing value_xml (map recur u))
-      go none k z = absurd (false≢true z)
-      go (some v) k z = rw (rule_xml (rest m s c) v k) w
+      go : (u : Option (List RulePart)) → read_rule (rest m s c) ≡ u → is_read u ≡ true → Put d e o q (or_nothing value_xml (option_map recur u))
+      go None k z = absurd (false≢true z)
+      go (Some v) k z = rw (rule_xml (rest m s c) v k) w
 
-  pub put_no_recur : r.good ≡ false → Put d e o q [] → Put d e o q (or_nothing value_xml (read_value ical RECUR (rest m s c)))
+  pub put_no_recur : r ≡ None → Put d e o q [] → Put d e o q (or_nothing value_xml (read_value ical RECUR (rest m s c)))
   unfolding read_value is_read
-  put_no_recur h w = go (read_rule (rest m s c)) (p.is ∙ h)
+  put_no_recur h w = go (read_rule (rest m s c)) (p.is ∙ ap is_some h)
     where
-      go : (u : Option (List RulePart)) → is_read u ≡ false → Put d e o q (or_nothing value_xml (map recur u))
-      go none z = w
-      go (some v) z = absurd (false≢true (sym z))
+      go : (u : Option (List RulePart)) → is_read u ≡ false → Put d e o q (or_nothing value_xml (option_map recur u))
+      go None z = w
+      go (Some v) z = absurd (false≢true (sym z))
 
 -- ---- a type that has character data
 
@@ -86,12 +81,12 @@ is_made URI = false
 is_made UTC-OFFSET = false
 is_made UNKNOWN = false
 
-mapped : {A : Type 0} (n : List ℕ) (g : A → Value) → ((a : A) → value_xml (g a) ≡ element_of n (escaped (value_characters (g a)))) → (u : Option A) (v : Value) → map g u ≡ some v →
+mapped : {A : Type 0} (n : List ℕ) (g : A → Value) → ((a : A) → value_xml (g a) ≡ element_of n (escaped (value_characters (g a)))) → (u : Option A) (v : Value) → option_map g u ≡ Some v →
     value_xml v ≡ element_of n (escaped (value_characters v))
-mapped n g k none v h = none-some h
-mapped n g k (some a) v h = let z : g a ≡ v = cc in rw (← z) (k a)
+mapped n g k None v h = none-some h
+mapped n g k (Some a) v h = let z : g a ≡ v = cc in rw (← z) (k a)
 
-plain : (u : ValueType) (l : List ℕ) (v : Value) → is_made u ≡ false → read_value ical u l ≡ some v → value_xml v ≡ element_of (lower (type_name u)) (escaped (value_characters v))
+plain : (u : ValueType) (l : List ℕ) (v : Value) → is_made u ≡ false → read_value ical u l ≡ Some v → value_xml v ≡ element_of (lower (type_name u)) (escaped (value_characters v))
 unfolding read_value value_xml
 plain BINARY l v m h = mapped _ binary (λ a. refl) (read_binary ical l) v h
 plain BOOLEAN l v m h = mapped _ boolean (λ a. refl) (read_boolean ical l) v h
@@ -126,18 +121,18 @@ not_made (suc (suc (suc (suc (suc (suc (suc (suc (suc (suc (suc (suc zero)))))))
 not_made (suc (suc (suc (suc (suc (suc (suc (suc (suc (suc (suc (suc (suc zero))))))))))))) a b = refl
 not_made (suc (suc (suc (suc (suc (suc (suc (suc (suc (suc (suc (suc (suc (suc t)))))))))))))) a b = refl
 
-module _ {d e : List ℕ} {o q : ℕ} (t : ℕ) (l : List ℕ) {r : ValueRead} (p : is_read (read_value ical (type_at t) l) ≡ is_good r) where
-  pub put_plain : {k : ℕ} → (t ≡ 8 → ⊥) → (t ≡ 9 → ⊥) → r ≡ value.Good k →
+module _ {d e : List ℕ} {o q : ℕ} (t : ℕ) (l : List ℕ) {r : Option ℕ} (p : is_read (read_value ical (type_at t) l) ≡ is_some r) where
+  pub put_plain : {k : ℕ} → (t ≡ 8 → ⊥) → (t ≡ 9 → ⊥) → r ≡ Some k →
       Put d e o q (element_of (type_label t) (or_nothing (λ v. escaped (value_characters v)) (read_value ical (type_at t) l))) → Put d e o q (or_nothing value_xml (read_value ical (type_at t) l))
   unfolding is_read
-  put_plain a b h w = go (read_value ical (type_at t) l) refl (p ∙ ap is_good h) w
+  put_plain a b h w = go (read_value ical (type_at t) l) refl (p ∙ ap is_some h) w
     where
       go : (u : Option Value) → read_value ical (type_at t) l ≡ u → is_read u ≡ true → Put d e o q (element_of (type_label t) (or_nothing (λ v. escaped (value_characters v)) u)) → Put d e o q (or_nothing value_xml u)
-      go none k z w = absurd (false≢true z)
-      go (some v) k z w = rw (plain (type_at t) l v (not_made t a b) k) w
+      go None k z w = absurd (false≢true z)
+      go (Some v) k z w = rw (plain (type_at t) l v (not_made t a b) k) w
 
-  pub put_no_plain : r ≡ value.Bad → Put d e o q [] → Put d e o q (or_nothing value_xml (read_value ical (type_at t) l))
-  put_no_plain h w = nothing_read value_xml (read_value ical (type_at t) l) (p ∙ ap is_good h) w
+  pub put_no_plain : r ≡ None → Put d e o q [] → Put d e o q (or_nothing value_xml (read_value ical (type_at t) l))
+  put_no_plain h w = nothing_read value_xml (read_value ical (type_at t) l) (p ∙ ap is_some h) w
 
 -- ---- the type by its number
 

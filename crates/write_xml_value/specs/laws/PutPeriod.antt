@@ -1,11 +1,10 @@
 -- Laws of what specs/PutPeriod.antt defines.
 --     put_period, put_no_period     it is the element of the period that is read
-use Rattle.std.specs.Prelude.{◌≡◌, Bool, false, List, [], ℕ}
+use Rattle.std.specs.Prelude.{◌≡◌, Bool, false, List, [], ℕ, Option, None, Some}
 use Rattle.std.proofs.Math.Path.{refl}
 use Rattle.std.proofs.Common.{sym, ◌∙◌}
 use Rattle.std.proofs.Math.Bool.{true}
 use Rattle.std.proofs.lemmas.Bool.{false≢true}
-use Rattle.std.proofs.Math.Option.{Option, none, some}
 use Rattle.octets.specs.Ascii.{ascii}
 use Rattle.octets.specs.Pick.{pick}
 use Rattle.octets.specs.Append.{◌⊕◌}
@@ -21,8 +20,7 @@ use Rattle.times.specs.Period.{read_period}
 use Rattle.times.specs.laws.Period.{period_accepted}
 use Rattle.times.specs.PeriodAt.{Periods}
 use Rattle.times.specs.PeriodWritten.{of_period, start_xml, end_xml}
-use Rattle.times.specs.declared.period.PeriodRead.{PeriodRead}
-use Rattle.times.specs.declared.period.PeriodRead.TheVariants.{Between, NoPeriod}
+use Rattle.times.specs.declared.period.Period.{Period}
 use Rattle.values.specs.laws.Bare.{date_time_bare, duration_bare}
 use Rattle.values.specs.ReadValue.{read_value}
 use Rattle.xml.specs.Escape.{escaped, element_of}
@@ -43,13 +41,12 @@ module _ {d e : List ℕ} {o r : ℕ} (x : Bool) (bs : List ℕ) where
 unfoldable is_explicit : Value → Bool
 is_explicit v = of_period (λ s e. true) (λ s d. false) false v
 
-kind : (o : Option (List ℕ)) (x : Bool) (u : List ℕ) (q : Option (List ℕ)) (v : Value) →
-    and_then o (λ start. pick x (some (period_explicit start u)) (and_then q (λ d. some (period_start start d)))) ≡ some v → is_explicit v ≡ x
+kind : (a : List ℕ) (x : Bool) (u : List ℕ) (q : Option (List ℕ)) (v : Value) →
+    pick x (Some (period_explicit a u)) (and_then q (λ d. Some (period_start a d))) ≡ Some v → is_explicit v ≡ x
 unfolding is_explicit of_period and_then pick
-kind none x u q v h = none-some h
-kind (some a) true u q v h = let z : period_explicit a u ≡ v = cc in rw (← z)
-kind (some a) false u none v h = none-some h
-kind (some a) false u (some d) v h = let z : period_start a d ≡ v = cc in rw (← z)
+kind a true u q v h = let z : period_explicit a u ≡ v = cc in rw (← z)
+kind a false u None v h = none-some h
+kind a false u (Some d) v h = let z : period_start a d ≡ v = cc in rw (← z)
 
 moment_plain : (m : List ℕ) → is_date_time m ≡ true → escaped (write_date_time xcal m) ≡ write_date_time xcal m
 moment_plain m h = date_time_bare (write_date_time ical m) m (date_time_read_back ical m h)
@@ -70,16 +67,16 @@ unfolding value_xml start_xml end_xml is_explicit of_period end_name pick
 start_written a v p q true k = absurd (false≢true k)
 start_written a v p q false k = rw (moment_plain a p, duration_plain v q)
 
-module _ {d e : List ℕ} {o q : ℕ} (l : List ℕ) {m : ℕ} {s : List ℕ} {r : PeriodRead} (p : Periods (read_period l) m s r) where
-  pub put_period : {n k : ℕ} {x : Bool} {c : ℕ} → r ≡ Between n k x c → Put d e o q (period_xml x l) → Put d e o q (or_nothing value_xml (read_value ical PERIOD l))
+module _ {d e : List ℕ} {o q : ℕ} (l : List ℕ) {m : ℕ} {s : List ℕ} {r : Option Period} (p : Periods (read_period l) m s r) where
+  pub put_period : {y : Period} → r ≡ Some y → Put d e o q (period_xml y.explicit l) → Put d e o q (or_nothing value_xml (read_value ical PERIOD l))
   unfolding read_value is_read
-  put_period {n} {k} {x} {c} h w = let b = rw h at p in go (read_period l) refl b.good (λ v z. kind _ x _ _ v (sym b.is ∙ z)) w
+  put_period {y} h w = let b = rw h at p in go (read_period l) refl b.good (λ v z. kind _ y.explicit _ _ v (sym b.is ∙ z)) w
     where
-      go : (u : Option Value) → read_period l ≡ u → is_read u ≡ true → ((v : Value) → read_period l ≡ some v → is_explicit v ≡ x) →
-          Put d e o q (element_of (ascii "period") (element_of (ascii "start") (or_nothing start_xml u) ⊕ element_of (end_name x) (or_nothing end_xml u))) → Put d e o q (or_nothing value_xml u)
-      go none z g f w = absurd (false≢true g)
-      go (some v) z g f w = rw (period_accepted Written explicit_written start_written l v z x (f v z)) w
+      go : (u : Option Value) → read_period l ≡ u → is_read u ≡ true → ((v : Value) → read_period l ≡ Some v → is_explicit v ≡ y.explicit) →
+          Put d e o q (element_of (ascii "period") (element_of (ascii "start") (or_nothing start_xml u) ⊕ element_of (end_name y.explicit) (or_nothing end_xml u))) → Put d e o q (or_nothing value_xml u)
+      go None z g f w = absurd (false≢true g)
+      go (Some v) z g f w = rw (period_accepted Written explicit_written start_written l v z y.explicit (f v z)) w
 
-  pub put_no_period : r ≡ NoPeriod → Put d e o q [] → Put d e o q (or_nothing value_xml (read_value ical PERIOD l))
+  pub put_no_period : r ≡ None → Put d e o q [] → Put d e o q (or_nothing value_xml (read_value ical PERIOD l))
   unfolding read_value
   put_no_period h w = rw (p.is, h) w

@@ -4,12 +4,12 @@
 --     put_found, put_missing     the piece of a part
 --     Naming                     the invariant of the loop over the parts
 --     nothing_read               nothing of what was not read
-use Rattle.std.specs.Prelude.{◌≡◌, Bool, List, [], ℕ, zero, suc, ◌+◌, ◌-◌, ◌*◌, ◌^◌, ◌≤◌, ◌<◌, eqb, length, take, drop, get_or}
+use Prim.{tt}
+use Rattle.std.specs.Prelude.{◌≡◌, Bool, List, [], ℕ, zero, suc, ◌+◌, ◌-◌, ◌*◌, ◌^◌, ◌≤◌, ◌<◌, eqb, length, take, drop, get_or, Option, None, Some, IfSome}
 use Rattle.std.proofs.Math.Path.{refl, sym}
 use Rattle.std.proofs.Common.{◌∙◌, subst, arith, add-one, drop_of_length-le, drop-cons}
 use Rattle.std.proofs.Math.Bool.{true, false}
 use Rattle.std.proofs.lemmas.Bool.{false≢true}
-use Rattle.std.proofs.Math.Option.{Option, none, some}
 use Rattle.octets.specs.Pick.{pick}
 use Rattle.octets.specs.Append.{◌⊕◌}
 use Rattle.octets.specs.laws.Append.{append_none}
@@ -64,16 +64,23 @@ module _ {n d₀ : List ℕ} {at₀ m : ℕ} {s : List ℕ} {c₀ : ℕ} {d : Li
 
 -- ---- the piece of a part
 
-module _ {d e : List ℕ} {o q : ℕ} (n : List ℕ) (m : ℕ) (s : List ℕ) (b : ℕ) where
-  pub put_missing : b ≡ 0 → Put d e o q [] → Put d e o q (or_nothing (piece_xml n) (piece_from m s b))
+module _ {d e : List ℕ} {o q : ℕ} (n : List ℕ) (m : ℕ) (s : List ℕ) (b : Option ℕ) where
+  pub put_missing : b ≡ None → Put d e o q [] → Put d e o q (or_nothing (piece_xml n) (piece_from m s b))
   put_missing h w = rw h w
 
-  pub put_found : {a : ℕ} → (b ≡ 0 → ⊥) → Ends 59 m s (b - 1) a → Put d e o q (piece_xml n (rest m (take a s) (b - 1))) → Put d e o q (or_nothing (piece_xml n) (piece_from m s b))
-  put_found h i w = go b h (rw (piece_is i) at w)
-    where
-      go : (b : ℕ) → (b ≡ 0 → ⊥) → Put d e o q (piece_xml n (up_to (λ (x : ℕ). eqb x 59) (rest m s (b - 1)))) → Put d e o q (or_nothing (piece_xml n) (piece_from m s b))
-      go zero h w = absurd (h refl)
-      go (suc c) h w = let z : suc c - 1 ≡ c = omega arith in rw z at w
+  pub put_found : {c a : ℕ} → b ≡ Some c → Ends 59 m s c a → Put d e o q (piece_xml n (rest m (take a s) c)) → Put d e o q (or_nothing (piece_xml n) (piece_from m s b))
+  put_found h i w = rw h (rw (piece_is i) at w)
+
+-- a piece that is there begins within bounds
+pub begins_inside : {m : ℕ} {s : List ℕ} {c : ℕ} {t : List (Option ℕ)} → Standing m s c t → (p : ℕ) → IfSome (get_or t p None) (λ b. b ≤ length s)
+begins_inside {s = s} {t = t} i p = go (get_or t p None) (i.inside p)
+  where
+    go : (o : Option ℕ) → ((b : ℕ) → o ≡ Some b → b ≤ length s) → IfSome o (λ b. b ≤ length s)
+    go None f = tt
+    go (Some b) f = f b refl
+
+pub begin_inside : (s : List ℕ) {b : Option ℕ} {c : ℕ} → IfSome b (λ c. c ≤ length s) → b ≡ Some c → c ≤ length s
+begin_inside s k h = subst (λ (o : Option ℕ). IfSome o (λ c. c ≤ length s)) h k
 
 -- ---- the parts in order
 
@@ -98,7 +105,7 @@ module _ {ws : List (List ℕ)} {d₀ : List ℕ} {at₀ : ℕ} {d : List ℕ} {
   naming_end h = todo_done t.todo (rw (drop_of_length-le part_names h))
 
 -- the piece of a part where it stands
-pub put_standing : {d e : List ℕ} {o q : ℕ} {m : ℕ} {s : List ℕ} {c : ℕ} {t : List ℕ} (p : ℕ) → Standing m s c t → p < 14 → Put d e o q (or_nothing (piece_xml (get_or part_names p [])) (piece_from m s (get_or t p 0))) →
+pub put_standing : {d e : List ℕ} {o q : ℕ} {m : ℕ} {s : List ℕ} {c : ℕ} {t : List (Option ℕ)} (p : ℕ) → Standing m s c t → p < 14 → Put d e o q (or_nothing (piece_xml (get_or part_names p [])) (piece_from m s (get_or t p None))) →
     Put d e o q (or_nothing (piece_xml (get_or part_names p [])) (row_of piece_name (get_or part_names p []) (cut_at 59 (rest m s c))))
 put_standing p i h w = rw (i.is p h) w
 
@@ -107,5 +114,5 @@ put_standing p i h w = rw (i.is p h) w
 -- nothing is written where nothing was read
 pub nothing_read : {A : Type 0} (w : A → List ℕ) {d e : List ℕ} {o q : ℕ} (u : Option A) → is_read u ≡ false → Put d e o q [] → Put d e o q (or_nothing w u)
 unfolding is_read
-nothing_read w none h p = p
-nothing_read w (some v) h p = absurd (false≢true (sym h))
+nothing_read w None h p = p
+nothing_read w (Some v) h p = absurd (false≢true (sym h))

@@ -5,10 +5,9 @@
 --     sequence_each                       of children in an order: each child passes a test that its own verdict implies
 --     sequence-comes, comes_named         and no slot is left that must be filled
 --     child_good                          of the first child of a name
-use Rattle.std.specs.Prelude.{◌≡◌, Bool, true, false, List, ◌∷◌, ℕ, suc, ltb}
+use Rattle.std.specs.Prelude.{◌≡◌, Bool, true, false, List, ◌∷◌, ℕ, suc, ltb, Option, None, Some}
 use Rattle.std.proofs.Math.Path.{refl}
 use Rattle.std.proofs.Common.{ap, ◌∙◌, sym}
-use Rattle.std.proofs.Math.Option.{Option, none, some}
 use Rattle.octets.specs.Pick.{pick, ◌or◌, ◌and◌}
 use Rattle.octets.specs.laws.Pick.{and_both, and_yes, or-false}
 use Rattle.octets.specs.Class.{is_space}
@@ -83,13 +82,13 @@ leaf_accepted good p kids h =
 
 -- an element that is admitted has a slot that has not passed
 pub admitted-fine : (o : Option (ℕ × Bool)) (next p : ℕ) (n : List ℕ) (v : Verdict) (rest : ℕ → Verdict) → admitted (after_slot o next) p n v rest ≡ fine →
-    (x : ℕ × Bool) × (o ≡ some x) × (ltb x.0 next ≡ false) × (v ≡ fine) × (rest (pick x.1 x.0 (suc x.0)) ≡ fine)
+    (x : ℕ × Bool) × (o ≡ Some x) × (ltb x.0 next ≡ false) × (v ≡ fine) × (rest (pick x.1 x.0 (suc x.0)) ≡ fine)
 unfolding pick
-admitted-fine none next p n v rest h = unexpected_not p n h
-admitted-fine (some x) next p n v rest h = go (ltb x.0 next) refl h
+admitted-fine None next p n v rest h = unexpected_not p n h
+admitted-fine (Some x) next p n v rest h = go (ltb x.0 next) refl h
   where
-    go : (t : Bool) → ltb x.0 next ≡ t → admitted (pick t none (some (pick x.1 x.0 (suc x.0)))) p n v rest ≡ fine →
-        (y : ℕ × Bool) × (some x ≡ some y) × (ltb y.0 next ≡ false) × (v ≡ fine) × (rest (pick y.1 y.0 (suc y.0)) ≡ fine)
+    go : (t : Bool) → ltb x.0 next ≡ t → admitted (pick t None (Some (pick x.1 x.0 (suc x.0)))) p n v rest ≡ fine →
+        (y : ℕ × Bool) × (Some x ≡ Some y) × (ltb y.0 next ≡ false) × (v ≡ fine) × (rest (pick y.1 y.0 (suc y.0)) ≡ fine)
     go true e k = unexpected_not p n k
     go false e k = let b = both_fine v _ k in (x, refl, e, b.0, b.1)
 
@@ -120,16 +119,16 @@ comes_named n (literal p b more) seen = comes_named n more seen
 comes_named n (referred p bs more) seen = comes_named n more seen
 comes_named n (element p m x kids more) seen = comes_named n more (m ∷ seen) ∙ turn (same n m) (is_one_of n seen) (child_named n more)
   where
-    turn : (a b : Bool) (o : Option (List ℕ)) → ((a or b) or is_read o) ≡ (b or is_read (pick a (some (characters_of kids)) o))
+    turn : (a b : Bool) (o : Option (List ℕ)) → ((a or b) or is_read o) ≡ (b or is_read (pick a (Some (characters_of kids)) o))
     turn true true o = refl
     turn true false o = refl
     turn false b o = refl
 
-taken : {A : Type 0} {a b : A} → some a ≡ some b → a ≡ b
+taken : {A : Type 0} {a b : A} → Some a ≡ Some b → a ≡ b
 taken e = cc
 
 -- the first child of a name passes the test
-pub child_good : (n : List ℕ) (good : List ℕ → Nodes → Bool) (kids : Nodes) (s : List ℕ) → all_children good kids ≡ true → child_named n kids ≡ some s →
+pub child_good : (n : List ℕ) (good : List ℕ → Nodes → Bool) (kids : Nodes) (s : List ℕ) → all_children good kids ≡ true → child_named n kids ≡ Some s →
     (inner : Nodes) × (characters_of inner ≡ s) × (good n inner ≡ true)
 unfolding all_children child_named pick
 child_good n good no_nodes s h c = none-some c
@@ -137,7 +136,7 @@ child_good n good (literal p b more) s h c = child_good n good more s h c
 child_good n good (referred p bs more) s h c = child_good n good more s h c
 child_good n good (element p m x kids more) s h c = let a = and_both (good m kids) _ h in go (same n m) refl c a.0 (child_good n good more s a.1)
   where
-    go : (t : Bool) → same n m ≡ t → pick t (some (characters_of kids)) (child_named n more) ≡ some s → good m kids ≡ true →
-        (child_named n more ≡ some s → (inner : Nodes) × (characters_of inner ≡ s) × (good n inner ≡ true)) → (inner : Nodes) × (characters_of inner ≡ s) × (good n inner ≡ true)
+    go : (t : Bool) → same n m ≡ t → pick t (Some (characters_of kids)) (child_named n more) ≡ Some s → good m kids ≡ true →
+        (child_named n more ≡ Some s → (inner : Nodes) × (characters_of inner ≡ s) × (good n inner ≡ true)) → (inner : Nodes) × (characters_of inner ≡ s) × (good n inner ≡ true)
     go true e k g ih = (kids, taken k, ap (λ (w : List ℕ). good w kids) (same_true n m e) ∙ g)
     go false e k g ih = ih k

@@ -2,10 +2,9 @@
 --     is_clean_value    the characters that its type leaves free are clean;   values_clean: those of valid values are;   clean_values: and back
 --     is_clean_data, status_clean, clean_status  the parts of a REQUEST-STATUS
 --     data_clean        the character data of a value's element;   moment_clean, span_clean, float_clean, item_clean: of the elements inside one
-use Rattle.std.specs.Prelude.{◌≡◌, refl, Bool, true, false, not, List, [], ◌∷◌, ℕ, zero, suc, eqb, length}
+use Rattle.std.specs.Prelude.{◌≡◌, refl, Bool, true, false, not, List, [], ◌∷◌, ℕ, zero, suc, eqb, length, Option, None, Some}
 use Rattle.std.proofs.Common.{◌∙◌}
 use Rattle.std.proofs.lemmas.Bool.{false≢true, not-true}
-use Rattle.std.proofs.Math.Option.{Option, none, some}
 use Rattle.octets.specs.Pick.{pick, ◌and◌}
 use Rattle.octets.specs.laws.Pick.{pick_no, pick_either, and_both, and_yes}
 use Rattle.octets.specs.Scan.{all_of}
@@ -83,19 +82,19 @@ unfolding every
 one_clean s h = and_yes _ _ h refl
 
 abbrev pub is_clean_data : Option (List ℕ) → Bool
-is_clean_data none = true
-is_clean_data (some s) = is_clean s
+is_clean_data None = true
+is_clean_data (Some s) = is_clean s
 
 pub status_clean : (c d : List ℕ) (x : Option (List ℕ)) → is_clean c ≡ true → is_clean d ≡ true → is_clean_data x ≡ true → every is_clean (status_parts c d x) ≡ true
 unfolding every
-status_clean c d none a b e = and_yes _ _ a (one_clean d b)
-status_clean c d (some x) a b e = and_yes _ _ a (and_yes _ _ b (one_clean x e))
+status_clean c d None a b e = and_yes _ _ a (one_clean d b)
+status_clean c d (Some x) a b e = and_yes _ _ a (and_yes _ _ b (one_clean x e))
 
 pub clean_status : (c d : List ℕ) (x : Option (List ℕ)) → every is_clean (status_parts c d x) ≡ true → (is_clean c ≡ true) × (is_clean d ≡ true) × (is_clean_data x ≡ true)
-clean_status c d none h =
+clean_status c d None h =
     let a = every_both is_clean c (d ∷ []) h in
     (a.0, (every_both is_clean d [] a.1).0, refl)
-clean_status c d (some x) h =
+clean_status c d (Some x) h =
     let a = every_both is_clean c (d ∷ x ∷ []) h in
     let b = every_both is_clean d (x ∷ []) a.1 in
     (a.0, b.0, (every_both is_clean x [] b.1).0)

@@ -2,8 +2,7 @@
 --     inside v             the content of the element of a value that is spelled as its type says
 --     value_before, values_before, parameters_before, properties_before  the elements of each, in front of what follows them
 --     calendar_content     the content of the root
-use Rattle.std.specs.Prelude.{Bool, List, [], ◌∷◌, ℕ}
-use Rattle.std.proofs.Math.Option.{Option, none, some}
+use Rattle.std.specs.Prelude.{Bool, List, [], ◌∷◌, ℕ, Option, None, Some}
 use Rattle.octets.specs.Ascii.{ascii}
 use Rattle.octets.specs.Pick.{pick}
 use Rattle.octets.specs.Class.{lower}
@@ -33,8 +32,8 @@ parts_before [] next = next
 parts_before (p ∷ ps) next = items_before (lower p.part) p.items (parts_before ps next)
 
 abbrev pub data_before : Option (List ℕ) → Content → Content
-data_before none next = next
-data_before (some s) next = leaf_before (ascii "data") s next
+data_before None next = next
+data_before (Some s) next = leaf_before (ascii "data") s next
 
 abbrev pub plain_inside : Value → Content
 plain_inside v = char_data (value_characters v) nothing

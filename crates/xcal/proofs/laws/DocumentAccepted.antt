@@ -1,12 +1,11 @@
 -- A calendar that is read from a document is valid (RFC 6321).
 --     document_accepted    what is read is valid
 --     document_again       and is read again from its own document, where that is within the input limit
-use Rattle.std.specs.Prelude.{◌≡◌, Bool, true, ℕ, zero, suc, ◌+◌, ◌≤◌, eqb, leb, length, drop}
+use Rattle.std.specs.Prelude.{◌≡◌, Bool, true, ℕ, zero, suc, ◌+◌, ◌≤◌, eqb, leb, length, drop, Option, None, Some}
 use Rattle.std.proofs.Math.Path.{refl}
 use Rattle.std.proofs.Math.Bool.{false}
 use Rattle.std.proofs.lemmas.Bool.{false≢true}
 use mathlib.Core.List.{List, [], ◌∷◌}
-use Rattle.std.proofs.Math.Option.{Option, none, some}
 use Rattle.std.proofs.Common.{arith}
 use Rattle.octets.specs.Ascii.{ascii}
 use Rattle.octets.specs.Pick.{◌and◌, ◌or◌}
@@ -106,9 +105,9 @@ later p nm ms h = (and_both (is_good_mark (opens p nm) (run_of ms)) _ h).1
 
 -- ---- the document
 
-none_bad : (o : Option ℕ) → characters o ≡ fine → o ≡ none
-none_bad none h = refl
-none_bad (some p) h = refused_not CHARACTER p h
+none_bad : (o : Option ℕ) → characters o ≡ fine → o ≡ None
+none_bad None h = refl
+none_bad (Some p) h = refused_not CHARACTER p h
 
 answered : (v : Verdict) (d c : Calendar) → answer v d ≡ accepted c → (v ≡ fine) × (d ≡ c)
 answered fine d c h = (refl, cc)

@@ -1,8 +1,7 @@
 -- A calendar that is written as a document is read back from it (RFC 6321).
 --     document_back    a valid calendar, whose document is within the input limit, is read back
-use Rattle.std.specs.Prelude.{◌≡◌, refl, true, List, ℕ, ◌+◌, ◌≤◌, length}
+use Rattle.std.specs.Prelude.{◌≡◌, refl, true, List, ℕ, ◌+◌, ◌≤◌, length, None}
 use Rattle.std.proofs.Math.Bool.{false}
-use Rattle.std.proofs.Math.Option.{none}
 use Rattle.std.proofs.Common.{le-leb}
 use Rattle.octets.specs.Ascii.{ascii}
 use Rattle.octets.specs.Pick.{pick, ◌or◌}
@@ -33,19 +32,19 @@ use Rattle.xcal.proofs.laws.SoundCalendar.{calendar_sound}
 
 -- ---- bytes
 
-start_good : first_bad declaration_line ≡ none
+start_good : first_bad declaration_line ≡ None
 unfolding utf8_compute
 start_good = refl
 
-root_good : first_bad root_start ≡ none
+root_good : first_bad root_start ≡ None
 unfolding utf8_compute
 root_good = refl
 
-end_good : first_bad (end_tag (ascii "icalendar") ⊕ ascii "\n") ≡ none
+end_good : first_bad (end_tag (ascii "icalendar") ⊕ ascii "\n") ≡ None
 unfolding utf8_compute
 end_good = refl
 
-document_good : (s : List ℕ) → first_bad s ≡ none → first_bad (document_of s) ≡ none
+document_good : (s : List ℕ) → first_bad s ≡ None → first_bad (document_of s) ≡ None
 document_good s h =
     good_append declaration_line (root_start ⊕ s ⊕ end_tag (ascii "icalendar") ⊕ ascii "\n") start_good
     (good_append root_start (s ⊕ end_tag (ascii "icalendar") ⊕ ascii "\n") root_good (good_append s (end_tag (ascii "icalendar") ⊕ ascii "\n") h end_good))

@@ -1,12 +1,11 @@
 -- The parameters of a property that is not refused, ENCODING among them where a value has type BINARY.
 --     are_parameters_lem  they are the parameters of such a property
-use Rattle.std.specs.Prelude.{◌≡◌, Bool, ℕ}
+use Rattle.std.specs.Prelude.{◌≡◌, Bool, ℕ, Option, None, Some}
 use Rattle.std.proofs.Math.Path.{refl}
 use Rattle.std.proofs.Common.{sym, ap, ◌∙◌}
 use Rattle.std.proofs.Math.Bool.{true, false, not}
 use Rattle.std.proofs.lemmas.Bool.{false≢true, not-false}
 use mathlib.Core.List.{List, [], ◌∷◌, map}
-use Rattle.std.proofs.Math.Option.{Option, none, some}
 use Rattle.octets.specs.Ascii.{ascii}
 use Rattle.octets.specs.Pick.{◌and◌, ◌or◌}
 use Rattle.octets.specs.laws.Pick.{and_yes, or_left, or_right, or_cases}
@@ -54,8 +53,8 @@ unfolding octets_compute
 one_base64 v h = go (text_in v) h
   where
     go : (o : Option (List ℕ)) → same (read_or [] o) (ascii "BASE64") ≡ true → is_word_in (ascii "BASE64" ∷ []) o ≡ true
-    go none k = absurd (false≢true k)
-    go (some s) k = or_left (same s (ascii "BASE64")) false k
+    go None k = absurd (false≢true k)
+    go (Some s) k = or_left (same s (ascii "BASE64")) false k
 
 base64_values : (vs : List Value) → is_amount false vs ≡ true → are_base64 vs ≡ true → every (λ v. is_word_in (ascii "BASE64" ∷ []) (text_in v)) vs ≡ true
 unfolding every

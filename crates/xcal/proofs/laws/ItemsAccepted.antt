@@ -1,10 +1,9 @@
 -- RECUR (RFC 6321, section 3.6.10): the items that elements state which are not refused.
 --     items_good, has_item    of a part: they are items, and there where an element is
 --     once, exclusive         one only where the part has no list; of UNTIL and COUNT one only
-use Rattle.std.specs.Prelude.{◌≡◌, refl, Bool, true, false, not, List, [], ◌∷◌, ℕ, suc, ◌≤◌, ◌<◌}
+use Rattle.std.specs.Prelude.{◌≡◌, refl, Bool, true, false, not, List, [], ◌∷◌, ℕ, suc, ◌≤◌, ◌<◌, Some}
 use Rattle.std.proofs.Common.{sym, ap, subst, ◌∙◌, arith, ltb-false}
 use Rattle.std.proofs.lemmas.Bool.{false≢true}
-use Rattle.std.proofs.Math.Option.{some}
 use Rattle.octets.specs.Ascii.{ascii}
 use Rattle.octets.specs.Pick.{pick, ◌and◌}
 use Rattle.octets.specs.laws.Pick.{pick_either, and_both, and_yes, and_no_left, and_no_right}
@@ -52,7 +51,7 @@ has_item n (literal p b more) h = has_item n more h
 has_item n (referred p bs more) h = has_item n more h
 has_item n (element p m x kids more) h = go (same (lower n) m) refl h (has_item n more)
   where
-    go : (t : Bool) → same (lower n) m ≡ t → is_read (pick t (some (characters_of kids)) (child_named (lower n) more)) ≡ true → (is_read (child_named (lower n) more) ≡ true → is_empty (items_of n more) ≡ false) →
+    go : (t : Bool) → same (lower n) m ≡ t → is_read (pick t (Some (characters_of kids)) (child_named (lower n) more)) ≡ true → (is_read (child_named (lower n) more) ≡ true → is_empty (items_of n more) ≡ false) →
         is_empty (pick (same m (lower n)) (read_or (word []) (read_item xcal n (characters_of kids)) ∷ items_of n more) (items_of n more)) ≡ false
     go true e k ih = rw (← (same_true (lower n) m e), same_self (lower n))
     go false e k ih = rw (same_swap (lower n) m e) (ih k)
@@ -63,13 +62,13 @@ has_item n (element p m x kids more) h = go (same (lower n) m) refl h (has_item 
 abbrev pub From : Nodes → ℕ → List (List ℕ) → ℕ → Type 0
 From kids next seen e = sequence recur_slots recur_inside kids next seen e ≡ fine
 
-slot_name : (m n : List ℕ) (x : ℕ × Bool) → same m (lower n) ≡ true → slot_of m recur_slots 0 ≡ some x → slot_of (lower n) recur_slots 0 ≡ some x
-slot_name m n x e h = subst (λ (w : List ℕ). slot_of w recur_slots 0 ≡ some x) (same_true m (lower n) e) h
+slot_name : (m n : List ℕ) (x : ℕ × Bool) → same m (lower n) ≡ true → slot_of m recur_slots 0 ≡ Some x → slot_of (lower n) recur_slots 0 ≡ Some x
+slot_name m n x e h = subst (λ (w : List ℕ). slot_of w recur_slots 0 ≡ Some x) (same_true m (lower n) e) h
 
-same_slot : (x y : ℕ × Bool) → some x ≡ some y → x.0 ≡ y.0
+same_slot : (x y : ℕ × Bool) → Some x ≡ Some y → x.0 ≡ y.0
 same_slot x y e = let z : x ≡ y = cc in ap (λ (w : ℕ × Bool). w.0) z
 
-gone : (n : List ℕ) (k : ℕ) (l : Bool) → slot_of (lower n) recur_slots 0 ≡ some (k, l) → (kids : Nodes) (next : ℕ) (seen : List (List ℕ)) (e : ℕ) → k < next → From kids next seen e → items_of n kids ≡ []
+gone : (n : List ℕ) (k : ℕ) (l : Bool) → slot_of (lower n) recur_slots 0 ≡ Some (k, l) → (kids : Nodes) (next : ℕ) (seen : List (List ℕ)) (e : ℕ) → k < next → From kids next seen e → items_of n kids ≡ []
 unfolding sequence items_of pick
 gone n k l s no_nodes next seen e g h = refl
 gone n k l s (literal p b more) next seen e g h = gone n k l s more next seen e g (test_fine (is_space b) _ FRAME p h).1
@@ -80,12 +79,12 @@ gone n k l s (element p m x kids more) next seen e g h =
     go (same m (lower n)) refl a.0 a.1 w
     (gone n k l s more _ (m ∷ seen) e (pick_either (λ y. k < y) a.0.1 a.0.0 (suc a.0.0) (omega arith) (omega arith)) a.4)
   where
-    go : (t : Bool) → same m (lower n) ≡ t → (y : ℕ × Bool) → slot_of m recur_slots 0 ≡ some y → next ≤ y.0 → items_of n more ≡ [] →
+    go : (t : Bool) → same m (lower n) ≡ t → (y : ℕ × Bool) → slot_of m recur_slots 0 ≡ Some y → next ≤ y.0 → items_of n more ≡ [] →
         pick t (read_or (word []) (read_item xcal n (characters_of kids)) ∷ items_of n more) (items_of n more) ≡ []
     go true d y o w ih = let z : k ≡ y.0 = same_slot (k, l) y (sym s ∙ slot_name m n y d o) in absurd (omega arith)
     go false d y o w ih = ih
 
-taken_slot : (x y : ℕ × Bool) → some x ≡ some y → x ≡ y
+taken_slot : (x y : ℕ × Bool) → Some x ≡ Some y → x ≡ y
 taken_slot x y e = cc
 
 -- ---- parts of one item
@@ -94,7 +93,7 @@ abbrev pub at_most_one : List RuleItem → Bool
 at_most_one [] = true
 at_most_one (i ∷ is) = is_empty is
 
-pub once : (n : List ℕ) (k : ℕ) → slot_of (lower n) recur_slots 0 ≡ some (k, false) → (kids : Nodes) (next : ℕ) (seen : List (List ℕ)) (e : ℕ) → From kids next seen e → at_most_one (items_of n kids) ≡ true
+pub once : (n : List ℕ) (k : ℕ) → slot_of (lower n) recur_slots 0 ≡ Some (k, false) → (kids : Nodes) (next : ℕ) (seen : List (List ℕ)) (e : ℕ) → From kids next seen e → at_most_one (items_of n kids) ≡ true
 unfolding sequence items_of pick
 once n k s no_nodes next seen e h = refl
 once n k s (literal p b more) next seen e h = once n k s more next seen e (test_fine (is_space b) _ FRAME p h).1
@@ -103,7 +102,7 @@ once n k s (element p m x kids more) next seen e h =
     let a = admitted-fine (slot_of m recur_slots 0) next p m (recur_inside p m x kids) _ h in
     go (same m (lower n)) refl a.0 a.1 a.4 (once n k s more _ (m ∷ seen) e a.4)
   where
-    go : (t : Bool) → same m (lower n) ≡ t → (y : ℕ × Bool) → slot_of m recur_slots 0 ≡ some y → From more (pick y.1 y.0 (suc y.0)) (m ∷ seen) e → at_most_one (items_of n more) ≡ true →
+    go : (t : Bool) → same m (lower n) ≡ t → (y : ℕ × Bool) → slot_of m recur_slots 0 ≡ Some y → From more (pick y.1 y.0 (suc y.0)) (m ∷ seen) e → at_most_one (items_of n more) ≡ true →
         at_most_one (pick t (read_or (word []) (read_item xcal n (characters_of kids)) ∷ items_of n more) (items_of n more)) ≡ true
     go true d y o f ih =
         let z : y ≡ (k, false) = taken_slot y (k, false) (sym (slot_name m n y d o) ∙ s) in
@@ -111,11 +110,11 @@ once n k s (element p m x kids more) next seen e h =
     go false d y o f ih = ih
 
 -- UNTIL and COUNT are not both there
-until_slot : slot_of (lower (ascii "UNTIL")) recur_slots 0 ≡ some (1, false)
+until_slot : slot_of (lower (ascii "UNTIL")) recur_slots 0 ≡ Some (1, false)
 unfolding octets_compute
 until_slot = refl
 
-count_slot : slot_of (lower (ascii "COUNT")) recur_slots 0 ≡ some (1, false)
+count_slot : slot_of (lower (ascii "COUNT")) recur_slots 0 ≡ Some (1, false)
 unfolding octets_compute
 count_slot = refl
 
@@ -136,7 +135,7 @@ exclusive (element p m x kids more) next seen e h =
     item : List ℕ → RuleItem
     item n = read_or (word []) (read_item xcal n (characters_of kids))
 
-    go : (t : Bool) → same m (lower (ascii "UNTIL")) ≡ t → (u : Bool) → same m (lower (ascii "COUNT")) ≡ u → (y : ℕ × Bool) → slot_of m recur_slots 0 ≡ some y →
+    go : (t : Bool) → same m (lower (ascii "UNTIL")) ≡ t → (u : Bool) → same m (lower (ascii "COUNT")) ≡ u → (y : ℕ × Bool) → slot_of m recur_slots 0 ≡ Some y →
         From more (pick y.1 y.0 (suc y.0)) (m ∷ seen) e → (not (is_empty (items_of (ascii "UNTIL") more)) and not (is_empty (items_of (ascii "COUNT") more))) ≡ false →
         (not (is_empty (pick t (item (ascii "UNTIL") ∷ items_of (ascii "UNTIL") more) (items_of (ascii "UNTIL") more)))
         and not (is_empty (pick u (item (ascii "COUNT") ∷ items_of (ascii "COUNT") more) (items_of (ascii "COUNT") more)))) ≡ false

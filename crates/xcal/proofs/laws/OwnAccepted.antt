@@ -1,12 +1,11 @@
 -- The values of a property read from elements that are not refused; GEO and REQUEST-STATUS have children of their own.
 --     values_accepted    they are the property's, of the type of its elements, and clean
-use Rattle.std.specs.Prelude.{◌≡◌, Bool, not, ℕ}
+use Rattle.std.specs.Prelude.{◌≡◌, Bool, not, ℕ, Option, None, Some}
 use Rattle.std.proofs.Math.Path.{refl}
 use Rattle.std.proofs.Common.{sym, ap, subst, ◌∙◌}
 use Rattle.std.proofs.Math.Bool.{true, false}
 use Rattle.std.proofs.lemmas.Bool.{false≢true}
 use mathlib.Core.List.{List, [], ◌∷◌}
-use Rattle.std.proofs.Math.Option.{Option, none, some}
 use Rattle.octets.specs.Ascii.{ascii}
 use Rattle.octets.specs.Pick.{pick, ◌and◌, ◌or◌}
 use Rattle.octets.specs.laws.Pick.{and_both, and_yes}
@@ -75,16 +74,16 @@ unfolding pick
 data_clean n kids o h = go (child_named n kids) refl
   where
     go : (w : Option (List ℕ)) → child_named n kids ≡ w → is_clean_data w ≡ true
-    go none e = refl
-    go (some s) e = let b = child_good n is_clean_child kids s h e in ap is_clean (sym b.1) ∙ (rw o at b.2)
+    go None e = refl
+    go (Some s) e = let b = child_good n is_clean_child kids s h e in ap is_clean (sym b.1) ∙ (rw o at b.2)
 
 text_clean : (n : List ℕ) (kids : Nodes) → same n (ascii "parameters") ≡ false → all_children is_clean_child kids ≡ true → is_clean (text_of n kids) ≡ true
 unfolding read_or
 text_clean n kids o h = go (child_named n kids) (data_clean n kids o h)
   where
     go : (w : Option (List ℕ)) → is_clean_data w ≡ true → is_clean (read_or [] w) ≡ true
-    go none e = empty_clean
-    go (some s) e = e
+    go None e = empty_clean
+    go (Some s) e = e
 
 module _ (ed : Edition) where
   geo_child : (k : List ℕ) (t : ValueType) (p : ℕ) (m : List ℕ) (x : ℕ) (kids : Nodes) → child_verdict ed k (ascii "GEO") t p m x kids ≡ fine → is_float_child m kids ≡ true

@@ -1,13 +1,12 @@
 -- The values of GEO and REQUEST-STATUS, which have children of their own, in the property's element (RFC 6321, section 3.4.1; schema, lines 744 and 1183).
 --     geo_stands, status_stands    what their elements are
 --     values_stand                 the elements of any property's values
-use Rattle.std.specs.Prelude.{◌≡◌, Bool, not, ℕ}
+use Rattle.std.specs.Prelude.{◌≡◌, Bool, not, ℕ, Option, None, Some}
 use Rattle.std.proofs.Math.Path.{refl, subst}
 use Rattle.std.proofs.Common.{sym}
 use Rattle.std.proofs.Math.Bool.{true, false}
 use Rattle.std.proofs.lemmas.Bool.{false≢true}
 use mathlib.Core.List.{List, [], ◌∷◌}
-use Rattle.std.proofs.Math.Option.{Option, none, some}
 use borrow.Author.Tests.{le-ltb, not-true}
 use Rattle.octets.specs.Ascii.{ascii}
 use Rattle.octets.specs.Pick.{pick, ◌or◌}
@@ -70,13 +69,13 @@ module _ (ed : Edition) where
 
   pub status_stands : (k c d : List ℕ) (x : Option (List ℕ)) → Stands ed k (ascii "REQUEST-STATUS") TEXT (request_status c d x ∷ [])
   unfolding schema_compute value_before values_before placed read_value_nodes child_named parameters_in sequence value_verdict lacks ◌otherwise◌
-  status_stands k c d none = record {
+  status_stands k c d None = record {
     stated = λ q. rw (leaf_characters c, leaf_characters d);
     typed = λ q. refl;
     apart = λ q. refl;
     good = λ next seen x q u. rw (le-ltb 1 next u, leaf_fine (λ s. true) q c _ refl, leaf_fine (λ s. true) _ d _ refl);
   }
-  status_stands k c d (some s) = record {
+  status_stands k c d (Some s) = record {
     stated = λ q. rw (leaf_characters c, leaf_characters d, leaf_characters s);
     typed = λ q. refl;
     apart = λ q. refl;

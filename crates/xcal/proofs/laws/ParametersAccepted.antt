@@ -1,13 +1,12 @@
 -- Parameters read from elements that are not refused are valid (RFC 6321, section 3.5).
 --     Said          what is known of the parameters that elements state
 --     parameters_accepted
-use Rattle.std.specs.Prelude.{◌≡◌, Bool, ℕ, eqb}
+use Rattle.std.specs.Prelude.{◌≡◌, Bool, ℕ, eqb, Option, None, Some}
 use Rattle.std.proofs.Math.Path.{refl}
 use Rattle.std.proofs.Common.{sym, ap, ◌∙◌}
 use Rattle.std.proofs.Math.Bool.{true, false, not}
 use Rattle.std.proofs.lemmas.Bool.{false≢true}
 use mathlib.Core.List.{List, [], ◌∷◌, map}
-use Rattle.std.proofs.Math.Option.{Option, none, some}
 use borrow.Author.Tests.{not-true, not-false}
 use Rattle.octets.specs.Ascii.{ascii}
 use Rattle.octets.specs.Pick.{pick, ◌and◌, ◌or◌}
@@ -62,21 +61,21 @@ are_chars Rfc5545 s = not (holds 34 s or holds 10 s)
 are_chars Rfc6868 s = true
 
 -- a choice that was read
-chosen_first : {A : Type 0} (t : Bool) (o : Option A) (a : A) → pick t o none ≡ some a → o ≡ some a
+chosen_first : {A : Type 0} (t : Bool) (o : Option A) (a : A) → pick t o None ≡ Some a → o ≡ Some a
 unfolding pick
 chosen_first true o a h = h
 chosen_first false o a h = none-some h
 
 -- ---- one parameter
 
-good_amount : (l : Bool) (vs : List Value) → values_good l (some vs) ≡ true → is_empty vs ≡ false → is_amount l vs ≡ true
+good_amount : (l : Bool) (vs : List Value) → values_good l (Some vs) ≡ true → is_empty vs ≡ false → is_amount l vs ≡ true
 good_amount l [] h e = absurd (false≢true (sym e))
 good_amount l (v ∷ vs) h e = h
 
-read_good : (l : Bool) (o : Option (List Value)) → values_good l o ≡ true → o ≡ some (read_or [] o)
+read_good : (l : Bool) (o : Option (List Value)) → values_good l o ≡ true → o ≡ Some (read_or [] o)
 unfolding read_or
-read_good l none h = absurd (false≢true h)
-read_good l (some vs) h = refl
+read_good l None h = absurd (false≢true h)
+read_good l (Some vs) h = refl
 
 small_value : lower (ascii "VALUE") ≡ ascii "value"
 unfolding octets_compute
@@ -119,11 +118,11 @@ unfolding every
 none_plain ed v f = and_yes _ _ (nothing_free ed v f) (rw f)
 
 -- what is read has the type asked for
-of_parameter : (t : ValueType) (s : List ℕ) (v : Value) → read_word_in none t s ≡ some v → is_of_parameter t v ≡ true
+of_parameter : (t : ValueType) (s : List ℕ) (v : Value) → read_word_in None t s ≡ Some v → is_of_parameter t v ≡ true
 unfolding pick
 of_parameter t s v h = go (same_type t UNKNOWN) refl h
   where
-    go : (b : Bool) → same_type t UNKNOWN ≡ b → pick b (some (unknown s)) (read_value xcal t s) ≡ some v → is_of_parameter t v ≡ true
+    go : (b : Bool) → same_type t UNKNOWN ≡ b → pick b (Some (unknown s)) (read_value xcal t s) ≡ Some v → is_of_parameter t v ≡ true
     go true e k =
         let z : unknown s ≡ v = cc in
         rw (← z) (and_yes _ _ (rw (same_type_true t UNKNOWN e) (same_type_self UNKNOWN)) (and_yes _ _ refl (or_left _ _ (same_type_self UNKNOWN))))
@@ -133,9 +132,9 @@ of_parameter t s v h = go (same_type t UNKNOWN) refl h
         and_yes _ _ a.0 (and_yes _ _ b.0 (or_right _ _ b.1))
 
 -- and, from clean characters that the edition can spell, both formats can have it
-plain_kept : (ed : Edition) (t : ValueType) (s : List ℕ) (v : Value) → is_type_of t parameter_types ≡ true → is_clean s ≡ true → are_chars ed s ≡ true → read_word_in none t s ≡ some v → is_plain ed v ≡ true
+plain_kept : (ed : Edition) (t : ValueType) (s : List ℕ) (v : Value) → is_type_of t parameter_types ≡ true → is_clean s ≡ true → are_chars ed s ≡ true → read_word_in None t s ≡ Some v → is_plain ed v ≡ true
 unfolding schema_compute read_value pick
-plain_kept ed TEXT s v p c a h = made (λ v. is_plain ed v ≡ true) text (some s) v h (λ x e. let z : s ≡ x = cc in rw (← z) (free_plain ed (text s) s refl c a))
+plain_kept ed TEXT s v p c a h = made (λ v. is_plain ed v ≡ true) text (Some s) v h (λ x e. let z : s ≡ x = cc in rw (← z) (free_plain ed (text s) s refl c a))
 plain_kept ed URI s v p c a h = made (λ v. is_plain ed v ≡ true) uri (read_uri s) v h (λ x e. none_plain ed (uri x) refl)
 plain_kept ed CAL-ADDRESS s v p c a h = made (λ v. is_plain ed v ≡ true) cal_address (read_uri s) v h (λ x e. none_plain ed (cal_address x) refl)
 plain_kept ed BOOLEAN s v p c a h = made (λ v. is_plain ed v ≡ true) boolean (read_boolean xcal s) v h (λ x e. none_plain ed (boolean x) refl)
@@ -158,17 +157,17 @@ module _ (ed : Edition) where
     plain : is_plain ed v ≡ true
 
   word_sound : (n : List ℕ) (o : Option (List (List ℕ))) (s : List ℕ) (v : Value) → parameter_words n ≡ o → are_chars ed s ≡ true → is_clean s ≡ true →
-      read_word_in o (parameter_type n) s ≡ some v → (is_parameter_value o (parameter_type n) v ≡ true) × (is_plain ed v ≡ true)
-  word_sound n none s v z a c h = (of_parameter (parameter_type n) s v h, plain_kept ed (parameter_type n) s v (parameter_type_lem n) c a h)
-  word_sound n (some words) s v z a c h =
+      read_word_in o (parameter_type n) s ≡ Some v → (is_parameter_value o (parameter_type n) v ≡ true) × (is_plain ed v ≡ true)
+  word_sound n None s v z a c h = (of_parameter (parameter_type n) s v h, plain_kept ed (parameter_type n) s v (parameter_type_lem n) c a h)
+  word_sound n (Some words) s v z a c h =
       let p = provided-some (is_one_of s words) (text s) v h in
       rw (← p.1) (p.0, free_plain ed (text s) s refl c a)
 
-  value_sound : (n : List ℕ) (kids : Nodes) (v : Value) → are_chars ed (characters_of kids) ≡ true → is_clean_content kids ≡ true → read_param_node n kids ≡ some v → Sound n v
+  value_sound : (n : List ℕ) (kids : Nodes) (v : Value) → are_chars ed (characters_of kids) ≡ true → is_clean_content kids ≡ true → read_param_node n kids ≡ Some v → Sound n v
   unfolding read_param_node pick
   value_sound n kids v a c h = go (has_element kids) refl h
     where
-      go : (t : Bool) → has_element kids ≡ t → pick t none (read_word_in (parameter_words n) (parameter_type n) (characters_of kids)) ≡ some v → Sound n v
+      go : (t : Bool) → has_element kids ≡ t → pick t None (read_word_in (parameter_words n) (parameter_type n) (characters_of kids)) ≡ Some v → Sound n v
       go true e k = none-some k
       go false e k =
           let w = word_sound n (parameter_words n) (characters_of kids) v refl a (clean_leaf kids e c) k in
@@ -181,7 +180,7 @@ module _ (ed : Edition) where
     plain : every (is_plain ed) vs ≡ true
     some_value : has_element kids ≡ true → is_empty vs ≡ false
 
-  values_sound : (n : List ℕ) (kids : Nodes) (vs : List Value) → are_spelled ed kids ≡ true → is_good kids ≡ true → read_param_nodes n kids ≡ some vs → Sounds n kids vs
+  values_sound : (n : List ℕ) (kids : Nodes) (vs : List Value) → are_spelled ed kids ≡ true → is_good kids ≡ true → read_param_nodes n kids ≡ Some vs → Sounds n kids vs
   unfolding is_good read_param_nodes has_element every
   values_sound n no_nodes vs s g h = let z : [] ≡ vs = cc in rw (← z) (record { chosen = refl; plain = refl; some_value = λ e. absurd (false≢true e) })
   values_sound n (literal p b more) vs s g h =

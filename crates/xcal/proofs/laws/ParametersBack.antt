@@ -2,10 +2,9 @@
 --     is_carried_value         a value whose characters hold no double quote and no LF
 --     parameter_values_back    the values that a parameter's element states;   spelled_in: an edition in which the parameter is valid can spell them
 --     parameters_back          the parameters that the elements of parameters state
-use Rattle.std.specs.Prelude.{◌≡◌, refl, Bool, true, false, not, List, [], ◌∷◌, ℕ}
+use Rattle.std.specs.Prelude.{◌≡◌, refl, Bool, true, false, not, List, [], ◌∷◌, ℕ, Some}
 use Rattle.std.proofs.Common.{ap}
 use Rattle.std.proofs.lemmas.Bool.{false≢true, not-true}
-use Rattle.std.proofs.Math.Option.{some}
 use Rattle.octets.specs.Pick.{pick, ◌and◌, ◌or◌}
 use Rattle.octets.specs.laws.Pick.{and_both, and_yes, or_no}
 use Rattle.octets.specs.Class.{is_visible, lower}
@@ -49,14 +48,14 @@ parameter_plain : (n : List ℕ) → (not (same_type (parameter_type n) PERIOD) 
 unfolding octets_compute parameter_row same_type
 parameter_plain n = row_any_passes (λ r. r.name) n (λ r. not (same_type r.type PERIOD) and not (same_type r.type RECUR)) unrecognised_parameter parameter_table refl refl
 
-of_text : (n : List ℕ) (words : List (List ℕ)) → parameter_words n ≡ some words → parameter_type n ≡ TEXT
+of_text : (n : List ℕ) (words : List (List ℕ)) → parameter_words n ≡ Some words → parameter_type n ≡ TEXT
 of_text n words e = (parameter_words_text n words e).0
 
 module _ (n : List ℕ) (v : Value) (h : is_parameter_value (parameter_words n) (parameter_type n) v ≡ true) where
   param_typed : (type_of v ≡ parameter_type n) × (is_typed v ≡ true)
   param_typed = parameter_typed (parameter_words n) (parameter_type n) v (of_text n) h
 
-  param_value_back : (q : ℕ) → read_param_node n (placed (inside v) q no_nodes) ≡ some v
+  param_value_back : (q : ℕ) → read_param_node n (placed (inside v) q no_nodes) ≡ Some v
   unfolding read_param_node pick
   param_value_back q =
       let k = param_typed in
@@ -75,7 +74,7 @@ module _ (n : List ℕ) (v : Value) (h : is_parameter_value (parameter_words n) 
 -- ---- the values of a parameter
 
 pub parameter_values_back : (n : List ℕ) (vs : List Value) → every (is_parameter_value (parameter_words n) (parameter_type n)) vs ≡ true →
-    (q : ℕ) → read_param_nodes n (placed (values_before vs nothing) q no_nodes) ≡ some vs
+    (q : ℕ) → read_param_nodes n (placed (values_before vs nothing) q no_nodes) ≡ Some vs
 unfolding values_before placed read_param_nodes pick and_then cons_read
 parameter_values_back n [] h q = refl
 parameter_values_back n (v ∷ vs) h q =
@@ -127,7 +126,7 @@ value_carried n v h f =
     truth true f = refl
     truth false f = refl
 
-pub values_in : (ed : Edition) (p : Parameter) → ValidParameter ed p → (q : ℕ) → read_param_nodes p.name (placed (values_before p.values nothing) q no_nodes) ≡ some p.values
+pub values_in : (ed : Edition) (p : Parameter) → ValidParameter ed p → (q : ℕ) → read_param_nodes p.name (placed (values_before p.values nothing) q no_nodes) ≡ Some p.values
 values_in ed p c q = parameter_values_back p.name p.values c.chosen q
 
 pub spelled_in : (ed : Edition) (p : Parameter) → ValidParameter ed p → (q : ℕ) → are_spelled ed (placed (values_before p.values nothing) q no_nodes) ≡ true

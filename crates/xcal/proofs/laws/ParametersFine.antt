@@ -1,13 +1,12 @@
 -- Parameters that are written to XML are not refused (RFC 6321, section 3.5).
 --     parameters_fine      the verdict on the elements of parameters
 --     has_encoding_lem     ENCODING stands among them where a value of type BINARY has it
-use Rattle.std.specs.Prelude.{◌≡◌, Bool, true, false, ℕ, eqb}
+use Rattle.std.specs.Prelude.{◌≡◌, Bool, true, false, ℕ, eqb, Option, None, Some}
 use Rattle.std.proofs.Math.Path.{refl}
 use Rattle.std.proofs.Common.{sym, ap, ◌∙◌, arith, ne_eqb}
 use Rattle.std.proofs.Math.Bool.{not}
 use Rattle.std.proofs.lemmas.Bool.{false≢true, not-true}
 use mathlib.Core.List.{List, [], ◌∷◌, map}
-use Rattle.std.proofs.Math.Option.{Option, none, some}
 use Rattle.octets.specs.Ascii.{ascii}
 use Rattle.octets.specs.Pick.{pick, ◌and◌, ◌or◌}
 use Rattle.octets.specs.laws.Pick.{and_both, and_yes, or_no, or_neither, or_left, or_right, or_cases, and_no_left, and_no_right, pick_second}
@@ -54,7 +53,7 @@ unfolding lower pick ◌and◌
 good_name n k o =
     or_no _ _ (no_capital n) (or_no _ _ (rw (kept_carried n k)) (lower-same n (ascii "VALUE") (kept_upper n k) value_name ∙ o))
 
-good_amount : (l : Bool) (vs : List Value) → is_amount l vs ≡ true → values_good l (some vs) ≡ true
+good_amount : (l : Bool) (vs : List Value) → is_amount l vs ≡ true → values_good l (Some vs) ≡ true
 good_amount l [] h = refl
 good_amount l (v ∷ vs) h = h
 
@@ -70,8 +69,8 @@ base64_values [] h = refl
 base64_values (v ∷ vs) h = go (text_in v) (every_both _ v vs h).0
   where
     go : (o : Option (List ℕ)) → is_word_in (ascii "BASE64" ∷ []) o ≡ true → same (read_or [] o) (ascii "BASE64") ≡ true
-    go none k = absurd (false≢true k)
-    go (some s) k = or_cases (same s (ascii "BASE64")) false k (λ e. e) (λ e. absurd (false≢true e))
+    go None k = absurd (false≢true k)
+    go (Some s) k = or_cases (same s (ascii "BASE64")) false k (λ e. e) (λ e. absurd (false≢true e))
 
 not_encoding : (t : ValueType) (p : Parameter) → same p.name (ascii "ENCODING") ≡ false → is_encoded t p ≡ true
 unfolding ◌and◌ ◌or◌

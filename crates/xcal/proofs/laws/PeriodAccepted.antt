@@ -1,13 +1,12 @@
 -- PERIOD (RFC 6321, section 3.6.9): elements that are not refused state a period.
 --     period_value       the value that they state is one
 --     read_passes, read_some    of a reading that did not fail
-use Rattle.std.specs.Prelude.{◌≡◌, Bool, not, ℕ}
+use Rattle.std.specs.Prelude.{◌≡◌, Bool, not, ℕ, Option, None, Some}
 use Rattle.std.proofs.Math.Path.{refl, sym, ap}
 use Rattle.std.proofs.Common.{◌∙◌}
 use Rattle.std.proofs.Math.Bool.{true, false}
 use Rattle.std.proofs.lemmas.Bool.{false≢true}
 use mathlib.Core.List.{List, []}
-use Rattle.std.proofs.Math.Option.{Option, none, some}
 use Rattle.octets.specs.Ascii.{ascii}
 use Rattle.octets.specs.Pick.{pick, ◌and◌, ◌or◌}
 use Rattle.octets.specs.laws.Pick.{and_yes, or_cases}
@@ -29,10 +28,10 @@ use Rattle.xcal.specs.ValueNodes.{period_slots, period_inside, child_named, mome
 use Rattle.xcal.proofs.laws.Accepted.{all_children, comes, leaf_accepted, sequence_each, sequence-comes, comes_named, child_good}
 
 -- what was read passes what every reading passes
-pub read_passes : {A : Type 0} (d : A) (o : Option A) (good : A → Bool) → is_read o ≡ true → ((a : A) → o ≡ some a → good a ≡ true) → good (read_or d o) ≡ true
+pub read_passes : {A : Type 0} (d : A) (o : Option A) (good : A → Bool) → is_read o ≡ true → ((a : A) → o ≡ Some a → good a ≡ true) → good (read_or d o) ≡ true
 unfolding is_read read_or
-read_passes d none good h f = absurd (false≢true h)
-read_passes d (some a) good h f = f a refl
+read_passes d None good h f = absurd (false≢true h)
+read_passes d (Some a) good h f = f a refl
 
 -- a child's characters are a duration, or a date-time
 abbrev is_part : List ℕ → Nodes → Bool
@@ -74,8 +73,8 @@ module _ (kids : Nodes) (e : ℕ) (h : sequence period_slots period_inside kids 
   period_value = go (child_named (ascii "duration") kids) refl has.1
     where
       go : (o : Option (List ℕ)) → child_named (ascii "duration") kids ≡ o → (is_read (child_named (ascii "end") kids) or is_read o) ≡ true → is_value (period_of o kids) ≡ true
-      go none c k = and_yes _ _ (moment_good (ascii "start") refl has.0) (moment_good (ascii "end") refl (or_cases _ false k (λ x. x) (λ x. absurd (false≢true x))))
-      go (some s) c k =
+      go None c k = and_yes _ _ (moment_good (ascii "start") refl has.0) (moment_good (ascii "end") refl (or_cases _ false k (λ x. x) (λ x. absurd (false≢true x))))
+      go (Some s) c k =
           let g = child_good (ascii "duration") is_part kids s each c in
           and_yes _ _ (moment_good (ascii "start") refl has.0)
           (read_passes [] (read_duration xcal s) is_duration (ap (λ (t : List ℕ). is_read (read_duration xcal t)) (sym g.1) ∙ g.2) (λ a z. duration_accepted xcal s a z))

@@ -1,11 +1,10 @@
 -- Properties that are written to XML are read back from their elements, and not refused (RFC 6321, section 3.4).
 --     properties_back          the properties that the elements of properties state
 --     properties_fine          the verdict on them
-use Rattle.std.specs.Prelude.{◌≡◌, true, false, not, ℕ, ◌≤◌}
+use Rattle.std.specs.Prelude.{◌≡◌, true, false, not, ℕ, ◌≤◌, None}
 use Rattle.std.proofs.Math.Path.{refl}
 use Rattle.std.proofs.Common.{ap, ◌∙◌, arith}
 use mathlib.Core.List.{List, [], ◌∷◌}
-use Rattle.std.proofs.Math.Option.{none}
 use Rattle.std.proofs.lemmas.Bool.{not-true}
 use Rattle.octets.specs.Ascii.{ascii}
 use Rattle.octets.specs.Pick.{pick, ◌and◌}
@@ -39,7 +38,7 @@ use Rattle.xcal.proofs.laws.OwnValues.{values_stand}
 
 -- ---- `parameters` before the values
 
-pub no_type : element_type (ascii "parameters") ≡ none
+pub no_type : element_type (ascii "parameters") ≡ None
 unfolding schema_compute element_type
 no_type = refl
 

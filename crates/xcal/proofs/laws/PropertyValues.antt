@@ -1,13 +1,12 @@
 -- The values of a property in its element: what they are read as, and that they are not refused (RFC 6321, sections 3.4 and 3.6).
 --     Stands          what the elements of values are, in the element of a property
 --     typed_stands    the elements of values that are spelled as their type says are that
-use Rattle.std.specs.Prelude.{◌≡◌, Bool, not, ℕ, ◌≤◌}
+use Rattle.std.specs.Prelude.{◌≡◌, Bool, not, ℕ, ◌≤◌, Some}
 use Rattle.std.proofs.Math.Path.{refl}
 use Rattle.std.proofs.Common.{sym, ap, ◌∙◌, arith}
 use Rattle.std.proofs.Math.Bool.{true, false}
 use Rattle.std.proofs.lemmas.Bool.{false≢true}
 use mathlib.Core.List.{List, [], ◌∷◌}
-use Rattle.std.proofs.Math.Option.{some}
 use borrow.Author.Tests.{le-ltb, not-true}
 use Rattle.octets.specs.Ascii.{ascii}
 use Rattle.octets.specs.Pick.{pick, ◌and◌, ◌or◌}
@@ -50,7 +49,7 @@ pub type_other : (t : ValueType) → same (lower (type_name t)) (ascii "paramete
 unfolding schema_compute
 type_other t = not-true _ (type_passes (λ u. not (same (lower (type_name u)) (ascii "parameters"))) refl t)
 
-type_slot : (t : ValueType) (l : Bool) → slot_of (lower (type_name t)) (typed_slots l) 0 ≡ some (1, l)
+type_slot : (t : ValueType) (l : Bool) → slot_of (lower (type_name t)) (typed_slots l) 0 ≡ Some (1, l)
 unfolding is_one_of ◌or◌ pick
 type_slot t l = rw (type_other t, type_listed t)
 
@@ -69,7 +68,7 @@ unfolding lacks any_one ◌and◌ ◌or◌
 filled ws l seen h = rw h
 
 -- a property with a closed set of words takes TEXT
-pub of_text : (k n : List ℕ) (t : ValueType) → is_type_of t (permitted_types n) ≡ true → (words : List (List ℕ)) → property_words k n ≡ some words → t ≡ TEXT
+pub of_text : (k n : List ℕ) (t : ValueType) → is_type_of t (permitted_types n) ≡ true → (words : List (List ℕ)) → property_words k n ≡ Some words → t ≡ TEXT
 unfolding is_type_of
 of_text k n t h words e =
     let z = (property_words_text k n words e).0 in

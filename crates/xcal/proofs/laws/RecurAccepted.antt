@@ -1,12 +1,11 @@
 -- RECUR (RFC 6321, section 3.6.10): elements that are not refused state a rule.
 --     rule_accepted     the parts that they state are a rule
-use Rattle.std.specs.Prelude.{◌≡◌, Bool, ℕ}
+use Rattle.std.specs.Prelude.{◌≡◌, Bool, ℕ, None, Some}
 use Rattle.std.proofs.Math.Path.{refl, sym}
 use Rattle.std.proofs.Common.{ap, ◌∙◌}
 use Rattle.std.proofs.Math.Bool.{true, false, not}
 use Rattle.std.proofs.lemmas.Bool.{false≢true}
 use mathlib.Core.List.{List, [], ◌∷◌}
-use Rattle.std.proofs.Math.Option.{none, some}
 use Rattle.octets.specs.Ascii.{ascii}
 use Rattle.octets.specs.Pick.{pick, ◌and◌, ◌or◌}
 use Rattle.octets.specs.laws.Pick.{and_both, and_yes, or_neither, pick_second}
@@ -81,20 +80,20 @@ module _ (kids : Nodes) (e : ℕ) (h : From kids 0 [] e) where
       let s = fits_slot_lem (slot_of (lower n) recur_slots 0) (is_list_part n) 0 b.1 in
       go (items_of n kids) refl (items_good n kids (same_true _ _ b.0) each) (all_parts ns a.1) s.0 s.1
     where
-      go : (is : List RuleItem) → items_of n kids ≡ is → every (is_item n) is ≡ true → every is_part (parts_of ns kids) ≡ true → (k : ℕ) → slot_of (lower n) recur_slots 0 ≡ some (k, is_list_part n) →
+      go : (is : List RuleItem) → items_of n kids ≡ is → every (is_item n) is ≡ true → every is_part (parts_of ns kids) ≡ true → (k : ℕ) → slot_of (lower n) recur_slots 0 ≡ Some (k, is_list_part n) →
           every is_part (one_part n is (parts_of ns kids)) ≡ true
       go [] z g ih k s = ih
       go (i ∷ is) z g ih k s =
           and_yes _ _ (part_good n i is (is_list_part n) refl (λ f. rw z at (once n k (rw f at s) kids 0 [] e h)) g) ih
 
   -- a name that is not among the names is no part's
-  parts_lack : (n : List ℕ) (ns : List (List ℕ)) → is_one_of n ns ≡ false → (after_named n (parts_of ns kids) ≡ parts_of ns kids) × (part_named n (parts_of ns kids) ≡ none)
+  parts_lack : (n : List ℕ) (ns : List (List ℕ)) → is_one_of n ns ≡ false → (after_named n (parts_of ns kids) ≡ parts_of ns kids) × (part_named n (parts_of ns kids) ≡ None)
   unfolding parts_of is_one_of after_named row_of pick
   parts_lack n [] o = (refl, refl)
   parts_lack n (m ∷ ns) o = let a = or_neither (same n m) _ o in go (items_of m kids) a.0 (parts_lack n ns a.1)
     where
-      go : (is : List RuleItem) → same n m ≡ false → (after_named n (parts_of ns kids) ≡ parts_of ns kids) × (part_named n (parts_of ns kids) ≡ none) →
-          (after_named n (one_part m is (parts_of ns kids)) ≡ one_part m is (parts_of ns kids)) × (part_named n (one_part m is (parts_of ns kids)) ≡ none)
+      go : (is : List RuleItem) → same n m ≡ false → (after_named n (parts_of ns kids) ≡ parts_of ns kids) × (part_named n (parts_of ns kids) ≡ None) →
+          (after_named n (one_part m is (parts_of ns kids)) ≡ one_part m is (parts_of ns kids)) × (part_named n (one_part m is (parts_of ns kids)) ≡ None)
       go [] d ih = ih
       go (i ∷ is) d ih = (rw d, rw d ih.1)
 

@@ -1,9 +1,8 @@
 -- RECUR (RFC 6321, section 3.6.10): the elements that are written of a rule are read back as that rule.
 --     parts_of_lem  the parts that the elements of a rule state are the rule
-use Rattle.std.specs.Prelude.{◌≡◌, refl, Bool, true, false, List, [], ◌∷◌, ◌++◌, map, ℕ}
+use Rattle.std.specs.Prelude.{◌≡◌, refl, Bool, true, false, List, [], ◌∷◌, ◌++◌, map, ℕ, Option, None, Some}
 use Rattle.std.proofs.Common.{sym, ap, ◌∙◌, append-nil}
 use Rattle.std.proofs.lemmas.Bool.{false≢true}
-use Rattle.std.proofs.Math.Option.{Option, none, some}
 use Rattle.octets.specs.Pick.{pick}
 use Rattle.octets.specs.laws.Pick.{and_both, pick_second}
 use Rattle.octets.specs.Class.{upper, lower}
@@ -38,8 +37,8 @@ item_capital : (n : List ℕ) (i : RuleItem) → is_item n i ≡ true → upper 
 item_capital n i h = go (part_of n) refl h
   where
     go : (o : Option Part) → part_of n ≡ o → is_for o i ≡ true → upper n ≡ n
-    go none e k = absurd (false≢true k)
-    go (some r) e k =
+    go None e k = absurd (false≢true k)
+    go (Some r) e k =
         let z : n ≡ r.name = sym (row_named (λ (r : Part). r.name) n part_table r e) in
         rw z (same_true _ _ (row_passes (λ (r : Part). r.name) n (λ (r : Part). same (upper r.name) r.name) part_table r table_capital e))
 
@@ -71,8 +70,8 @@ items_other n m [] c l h rest q = rest q
 items_other n m (i ∷ is) c l h rest q = rw h (items_other n m is c l h rest _)
 
 abbrev items_in : Option RulePart → List RuleItem
-items_in none = []
-items_in (some p) = p.items
+items_in None = []
+items_in (Some p) = p.items
 
 parts_items : (n : List ℕ) → upper n ≡ n → (ps : List RulePart) → distinct (map name_of ps) ≡ true → every is_part ps ≡ true →
     (q : ℕ) → items_of n (placed (parts_before ps nothing) q no_nodes) ≡ items_in (part_named n ps)
@@ -87,10 +86,10 @@ parts_items n c (p ∷ ps) d h q = go (same n p.part) refl (parts_items n c ps o
     once = pick_second (is_one_of p.part (map name_of ps)) (distinct (map name_of ps)) d
 
     go : (t : Bool) → same n p.part ≡ t → ((q : ℕ) → items_of n (placed (parts_before ps nothing) q no_nodes) ≡ items_in (part_named n ps)) →
-        items_of n (placed (items_before (lower p.part) p.items (parts_before ps nothing)) q no_nodes) ≡ items_in (pick t (some p) (part_named n ps))
+        items_of n (placed (items_before (lower p.part) p.items (parts_before ps nothing)) q no_nodes) ≡ items_in (pick t (Some p) (part_named n ps))
     go true e ih =
         let z : p.part ≡ n = sym (same_true n p.part e) in
-        let w : part_named n ps ≡ none = row_none name_of n ps (rw z at once.0) in
+        let w : part_named n ps ≡ None = row_none name_of n ps (rw z at once.0) in
         let k : every (is_item n) p.items ≡ true = rw z at (and_both _ _ parts.0).1 in
         rw z (items_named n p.items (parts_before ps nothing) [] k (λ r. ih r ∙ ap items_in w) q) ∙ append-nil p.items
     go false e ih = items_other n (lower p.part) p.items (parts_before ps nothing) _ (lower-same p.part n (part_capital p parts.0) c ∙ same_swap n p.part e) ih q
@@ -99,8 +98,8 @@ parts_items n c (p ∷ ps) d h q = go (same n p.part) refl (parts_items n c ps o
 
 one_part_lem : (n : List ℕ) (o : Option RulePart) (ps l : List RulePart) → part_named n ps ≡ o → every is_part ps ≡ true → one_part n (items_in o) l ≡ with_part o l
 unfolding with_part
-one_part_lem n none ps l e h = refl
-one_part_lem n (some p) ps l e h = go p.items refl (and_both _ _ (row_passes name_of n is_part ps p h e)).0
+one_part_lem n None ps l e h = refl
+one_part_lem n (Some p) ps l e h = go p.items refl (and_both _ _ (row_passes name_of n is_part ps p h e)).0
   where
     go : (is : List RuleItem) → p.items ≡ is → is_amount (is_list_part p.part) is ≡ true → one_part n is l ≡ p ∷ l
     go [] k a = absurd (false≢true a)

@@ -1,11 +1,10 @@
 -- RECUR (RFC 6321, section 3.6.10): the elements that are written of a rule stand in the schema's order, and are not refused.
 --     rule_fine     the verdict on the elements of a rule
-use Rattle.std.specs.Prelude.{◌≡◌, refl, Bool, not, ℕ, suc, ◌≤◌, leb}
+use Rattle.std.specs.Prelude.{◌≡◌, refl, Bool, not, ℕ, suc, ◌≤◌, leb, Option, None, Some}
 use Rattle.std.proofs.Common.{sym, ap, subst, ◌∙◌, arith, le-ltb, le-leb, leb-true}
 use Rattle.std.proofs.Math.Bool.{true, false}
 use Rattle.std.proofs.lemmas.Bool.{false≢true}
 use mathlib.Core.List.{List, [], ◌∷◌}
-use Rattle.std.proofs.Math.Option.{Option, none, some}
 use Rattle.octets.specs.Ascii.{ascii}
 use Rattle.octets.specs.Pick.{pick, ◌and◌, ◌or◌}
 use Rattle.octets.specs.laws.Pick.{and_yes, and_both}
@@ -38,7 +37,7 @@ Fine c next seen e = (q : ℕ) → sequence recur_slots recur_inside (placed c q
 
 -- an item in the slot k
 item_fine : (m n : List ℕ) (k : ℕ) (l : Bool) (i : RuleItem) (c : Content) (next : ℕ) (seen : List (List ℕ)) (e : ℕ) →
-    slot_of m recur_slots 0 ≡ some (k, l) → upper m ≡ n → is_item n i ≡ true → next ≤ k → Fine c (pick l k (suc k)) (m ∷ seen) e → Fine (leaf_before m (write_item xcal i) c) next seen e
+    slot_of m recur_slots 0 ≡ Some (k, l) → upper m ≡ n → is_item n i ≡ true → next ≤ k → Fine c (pick l k (suc k)) (m ∷ seen) e → Fine (leaf_before m (write_item xcal i) c) next seen e
 unfolding placed sequence recur_inside pick ◌otherwise◌ is_read
 item_fine m n k l i c next seen e s u h g rest q =
     rw (s, le-ltb k next g, leaf_fine (λ s. is_read (read_item xcal (upper m) s)) q (write_item xcal i) _ (rw (u, item_read_back xcal n i h)))
@@ -48,7 +47,7 @@ item_fine m n k l i c next seen e s u h g rest q =
 module _ (m n : List ℕ) (k : ℕ) (c : Content) (e : ℕ) (P : List (List ℕ) → Type 0) (u : upper m ≡ n)
     (keeps : (seen : List (List ℕ)) → P seen → P (m ∷ seen)) (rest : (next : ℕ) (seen : List (List ℕ)) → next ≤ suc k → P seen → Fine c next seen e) where
   -- more items, where several may stand
-  items_more : slot_of m recur_slots 0 ≡ some (k, true) → (is : List RuleItem) → every (is_item n) is ≡ true → (next : ℕ) (seen : List (List ℕ)) → next ≤ k → P seen →
+  items_more : slot_of m recur_slots 0 ≡ Some (k, true) → (is : List RuleItem) → every (is_item n) is ≡ true → (next : ℕ) (seen : List (List ℕ)) → next ≤ k → P seen →
       Fine (items_before m is c) next seen e
   unfolding items_before every pick
   items_more s [] h next seen g p = rest next seen (omega arith) p
@@ -56,7 +55,7 @@ module _ (m n : List ℕ) (k : ℕ) (c : Content) (e : ℕ) (P : List (List ℕ)
       let b = and_both (is_item n i) (every (is_item n) is) h in
       item_fine m n k true i (items_before m is c) next seen e s u b.0 g (items_more s is b.1 k (m ∷ seen) (omega arith) (keeps seen p))
 
-  items_fine : (l : Bool) → slot_of m recur_slots 0 ≡ some (k, l) → (is : List RuleItem) → is_amount l is ≡ true → every (is_item n) is ≡ true → (next : ℕ) (seen : List (List ℕ)) → next ≤ k → P (m ∷ seen) →
+  items_fine : (l : Bool) → slot_of m recur_slots 0 ≡ Some (k, l) → (is : List RuleItem) → is_amount l is ≡ true → every (is_item n) is ≡ true → (next : ℕ) (seen : List (List ℕ)) → next ≤ k → P (m ∷ seen) →
       Fine (items_before m is c) next seen e
   unfolding items_before every pick
   items_fine l s [] a h next seen g p = absurd (false≢true a)
@@ -72,12 +71,12 @@ module _ (m n : List ℕ) (k : ℕ) (c : Content) (e : ℕ) (P : List (List ℕ)
 
 -- the slot of a name: not before `next`, and several exactly where the part has a list
 abbrev pub fits_slot : Option (ℕ × Bool) → Bool → ℕ → Bool
-fits_slot none l next = false
-fits_slot (some x) l next = leb next x.0 and pick x.1 l (not l)
+fits_slot None l next = false
+fits_slot (Some x) l next = leb next x.0 and pick x.1 l (not l)
 
 abbrev pub past_slot : Option (ℕ × Bool) → ℕ
-past_slot none = 0
-past_slot (some x) = suc x.0
+past_slot None = 0
+past_slot (Some x) = suc x.0
 
 -- names whose slots follow one another, from `next` on
 unfoldable rising : ℕ → List (List ℕ) → Bool
@@ -85,8 +84,8 @@ rising next [] = true
 rising next (n ∷ ns) = fits_slot (slot_of (lower n) recur_slots 0) (is_list_part n) next and rising (past_slot (slot_of (lower n) recur_slots 0)) ns
 
 fits_before : (o : Option (ℕ × Bool)) (l : Bool) (a b : ℕ) → b ≤ a → fits_slot o l a ≡ true → fits_slot o l b ≡ true
-fits_before none l a b g h = h
-fits_before (some x) l a b g h = let q = and_both (leb a x.0) _ h in let z = leb-true a x.0 q.0 in and_yes _ _ (le-leb b x.0 (omega arith)) q.1
+fits_before None l a b g h = h
+fits_before (Some x) l a b g h = let q = and_both (leb a x.0) _ h in let z = leb-true a x.0 q.0 in and_yes _ _ (le-leb b x.0 (omega arith)) q.1
 
 rising_before : (ns : List (List ℕ)) (a b : ℕ) → b ≤ a → rising a ns ≡ true → rising b ns ≡ true
 unfolding rising
@@ -94,10 +93,10 @@ rising_before [] a b g h = refl
 rising_before (n ∷ ns) a b g h = let q = and_both _ _ h in and_yes _ _ (fits_before (slot_of (lower n) recur_slots 0) (is_list_part n) a b g q.0) q.1
 
 -- a slot that fits
-pub fits_slot_lem : (o : Option (ℕ × Bool)) (l : Bool) (next : ℕ) → fits_slot o l next ≡ true → (k : ℕ) × (o ≡ some (k, l)) × (next ≤ k) × (past_slot o ≡ suc k)
+pub fits_slot_lem : (o : Option (ℕ × Bool)) (l : Bool) (next : ℕ) → fits_slot o l next ≡ true → (k : ℕ) × (o ≡ Some (k, l)) × (next ≤ k) × (past_slot o ≡ suc k)
 unfolding pick
-fits_slot_lem none l next h = absurd (false≢true h)
-fits_slot_lem (some x) l next h = let q = and_both (leb next x.0) _ h in (x.0, ap (λ (b : Bool). some (x.0, b)) (listed x.1 l q.1), leb-true next x.0 q.0, refl)
+fits_slot_lem None l next h = absurd (false≢true h)
+fits_slot_lem (Some x) l next h = let q = and_both (leb next x.0) _ h in (x.0, ap (λ (b : Bool). Some (x.0, b)) (listed x.1 l q.1), leb-true next x.0 q.0, refl)
   where
     listed : (a b : Bool) → pick a b (not b) ≡ true → a ≡ b
     listed true b k = sym k
@@ -124,7 +123,7 @@ freq_comes : (p : RulePart) (ps : List RulePart) (seen : List (List ℕ)) → Fr
 unfolding is_one_of ◌or◌ row_of pick is_read
 freq_comes p ps seen h = go (same (ascii "FREQ") p.part) refl h
   where
-    go : (t : Bool) → same (ascii "FREQ") p.part ≡ t → (is_one_of (ascii "freq") seen or is_read (pick t (some p) (part_named (ascii "FREQ") ps))) ≡ true →
+    go : (t : Bool) → same (ascii "FREQ") p.part ≡ t → (is_one_of (ascii "freq") seen or is_read (pick t (Some p) (part_named (ascii "FREQ") ps))) ≡ true →
         ((same (ascii "freq") (lower p.part) or is_one_of (ascii "freq") seen) or has_part (ascii "FREQ") ps) ≡ true
     go true e k = rw (← (same_true (ascii "FREQ") p.part e), small_freq)
     go false e k = freq_keeps ps (lower p.part) seen k
@@ -152,7 +151,7 @@ parts_fine (n ∷ ns) ps next seen e r o h f q = go ps o h f (λ l x y. parts_fi
     both : (fits_slot (slot_of (lower n) recur_slots 0) (is_list_part n) next ≡ true) × (rising (past_slot (slot_of (lower n) recur_slots 0)) ns ≡ true)
     both = and_both _ _ r
 
-    found : (k : ℕ) × (slot_of (lower n) recur_slots 0 ≡ some (k, is_list_part n)) × (next ≤ k) × (past_slot (slot_of (lower n) recur_slots 0) ≡ suc k)
+    found : (k : ℕ) × (slot_of (lower n) recur_slots 0 ≡ Some (k, is_list_part n)) × (next ≤ k) × (past_slot (slot_of (lower n) recur_slots 0) ≡ suc k)
     found = fits_slot_lem (slot_of (lower n) recur_slots 0) (is_list_part n) next both.0
 
     before : (x : ℕ) → x ≤ suc found.0 → rising x ns ≡ true
@@ -174,7 +173,7 @@ parts_fine (n ∷ ns) ps next seen e r o h f q = go ps o h f (λ l x y. parts_fi
             let a = and_both (is_amount (is_list_part p.part) p.items) _ parts.0 in
             items_fine (lower p.part) p.part found.0 (parts_before l nothing) e (Freq l) (upper-lower p.part (part_capital p parts.0))
             (freq_keeps l (lower p.part)) (λ x y g k. ih l x y (before x g) o parts.1 k)
-            (is_list_part p.part) (subst (λ (x : List ℕ). slot_of (lower x) recur_slots 0 ≡ some (found.0, is_list_part x)) w found.1) p.items a.0 a.1 next seen found.2 (freq_comes p l seen f) q
+            (is_list_part p.part) (subst (λ (x : List ℕ). slot_of (lower x) recur_slots 0 ≡ Some (found.0, is_list_part x)) w found.1) p.items a.0 a.1 next seen found.2 (freq_comes p l seen f) q
 
 -- ---- a rule
 
@@ -197,7 +196,7 @@ unfolding row_of is_read after_named pick
 after_lacks n [] h = refl
 after_lacks n (p ∷ ps) h = go (same n p.part) h
   where
-    go : (t : Bool) → is_read (pick t (some p) (part_named n ps)) ≡ false → pick t ps (p ∷ ps) ≡ p ∷ ps
+    go : (t : Bool) → is_read (pick t (Some p) (part_named n ps)) ≡ false → pick t ps (p ∷ ps) ≡ p ∷ ps
     go true k = absurd (false≢true (sym k))
     go false k = refl
 
@@ -206,7 +205,7 @@ unfolding row_of is_read after_named pick
 lacks_after n m [] h = refl
 lacks_after n m (p ∷ ps) h = go (same m p.part) (same n p.part) refl h
   where
-    go : (t u : Bool) → same n p.part ≡ u → is_read (pick u (some p) (part_named n ps)) ≡ false → has_part n (pick t ps (p ∷ ps)) ≡ false
+    go : (t u : Bool) → same n p.part ≡ u → is_read (pick u (Some p) (part_named n ps)) ≡ false → has_part n (pick t ps (p ∷ ps)) ≡ false
     go t true e k = absurd (false≢true (sym k))
     go true false e k = k
     go false false e k = rw e k

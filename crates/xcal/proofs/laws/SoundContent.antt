@@ -3,10 +3,9 @@
 --     is_sound c d       content of such data, where at most d elements stand inside one another
 --     sound_writable     it can be written;   sound_good: its bytes are well formed;   sound_deeper: it is sound in more room
 --     escaped_good       character data is well formed also with its entities
-use Rattle.std.specs.Prelude.{◌≡◌, refl, Bool, true, false, not, List, [], ◌∷◌, ℕ, zero, suc, ◌+◌, ◌≤◌, eqb, leb}
+use Rattle.std.specs.Prelude.{◌≡◌, refl, Bool, true, false, not, List, [], ◌∷◌, ℕ, zero, suc, ◌+◌, ◌≤◌, eqb, leb, None, Some}
 use Rattle.std.proofs.Common.{sym, ◌∙◌, arith, ne_eqb, eqb-true}
 use Rattle.std.proofs.lemmas.Bool.{false≢true}
-use Rattle.std.proofs.Math.Option.{none, some}
 use Rattle.octets.specs.Ascii.{ascii}
 use Rattle.octets.specs.Pick.{pick, ◌and◌, ◌or◌, within}
 use Rattle.octets.specs.laws.Pick.{and_both, and_yes, within_range}
@@ -84,7 +83,7 @@ tails-escaped (b ∷ s) (suc n) lo hi l g h =
     rw (high_stays b s (omega arith)) (and_yes _ _ a.0 (tails-escaped s n 0x80 (high_after l b) false (omega arith) a.1))
 
 -- after the first k bytes, which are of a character that began before
-from_escaped : (s : List ℕ) (k i j lo hi : ℕ) (l : Bool) → 0x80 ≤ lo → tails k lo hi l s ≡ true → bad_from k i s ≡ none → bad_from k j (escaped s) ≡ none
+from_escaped : (s : List ℕ) (k i j lo hi : ℕ) (l : Bool) → 0x80 ≤ lo → tails k lo hi l s ≡ true → bad_from k i s ≡ None → bad_from k j (escaped s) ≡ None
 unfolding bad_from tails escaped pick ◌and◌
 from_escaped [] k i j lo hi l g t h = refl
 from_escaped (b ∷ s) (suc k) i j lo hi l g t h =
@@ -93,46 +92,46 @@ from_escaped (b ∷ s) (suc k) i j lo hi l g t h =
     rw (high_stays b s (omega arith)) (from_escaped s k (i + 1) (j + 1) 0x80 (high_after l b) false (omega arith) a.1 h)
 from_escaped (a ∷ s) zero i j lo hi l g t h = go (is_sequence a s) refl h (λ k i j lo hi l. from_escaped s k i j lo hi l)
   where
-    go : (u : Bool) → is_sequence a s ≡ u → pick u (bad_from (more a) (i + 1) s) (some i) ≡ none →
-        ((k i j lo hi : ℕ) (l : Bool) → 0x80 ≤ lo → tails k lo hi l s ≡ true → bad_from k i s ≡ none → bad_from k j (escaped s) ≡ none) → bad_from 0 j (escaped (a ∷ s)) ≡ none
+    go : (u : Bool) → is_sequence a s ≡ u → pick u (bad_from (more a) (i + 1) s) (Some i) ≡ None →
+        ((k i j lo hi : ℕ) (l : Bool) → 0x80 ≤ lo → tails k lo hi l s ≡ true → bad_from k i s ≡ None → bad_from k j (escaped s) ≡ None) → bad_from 0 j (escaped (a ∷ s)) ≡ None
     go false e h ih = none-some (sym h)
     go true e h ih =
         let b = and_both (leb (more a) 3) _ e in
-        escaped_case (λ x. bad_from 0 j x ≡ none) a s
+        escaped_case (λ x. bad_from 0 j x ≡ None) a s
         (λ y w v. bad_append w (escaped s) j (visible_good w v) ∙ ih 0 (i + 1) _ 0x80 0x80 false (omega arith) refl (rw y at h))
         (rw (b.0, tails-escaped s (more a) (low a) (high a) (eqb a 0xEF) (low_least a) b.1)
         (ih (more a) (i + 1) (j + 1) (low a) (high a) (eqb a 0xEF) (low_least a) b.1 h))
 
-pub escaped_good : (s : List ℕ) → first_bad s ≡ none → first_bad (escaped s) ≡ none
+pub escaped_good : (s : List ℕ) → first_bad s ≡ None → first_bad (escaped s) ≡ None
 unfolding tails
 escaped_good s h = from_escaped s 0 0 0 0x80 0x80 false (omega arith) refl h
 
 -- ---- tags
 
-open_good : first_bad (ascii "<") ≡ none
+open_good : first_bad (ascii "<") ≡ None
 unfolding bad_from tails pick ◌and◌ ◌or◌
 open_good = refl
 
-close_good : first_bad (ascii ">") ≡ none
+close_good : first_bad (ascii ">") ≡ None
 unfolding bad_from tails pick ◌and◌ ◌or◌
 close_good = refl
 
-end_good : first_bad (ascii "</") ≡ none
+end_good : first_bad (ascii "</") ≡ None
 unfolding bad_from tails pick ◌and◌ ◌or◌
 end_good = refl
 
-name_good : (n : List ℕ) → is_name n ≡ true → first_bad n ≡ none
+name_good : (n : List ℕ) → is_name n ≡ true → first_bad n ≡ None
 unfolding is_name
 name_good [] h = absurd (false≢true h)
 name_good (b ∷ n) h = visible_good (b ∷ n) (all_weaker is_name_char is_visible name_char_visible (b ∷ n) (and_both _ _ h).1)
 
-element_good : (n s : List ℕ) → is_name n ≡ true → first_bad s ≡ none → first_bad (element_of n s) ≡ none
+element_good : (n s : List ℕ) → is_name n ≡ true → first_bad s ≡ None → first_bad (element_of n s) ≡ None
 element_good n s h k =
     good_append (start_tag n) (s ⊕ end_tag n)
     (good_append (ascii "<") (n ⊕ ascii ">") open_good (good_append n (ascii ">") (name_good n h) close_good))
     (good_append s (end_tag n) k (good_append (ascii "</") (n ⊕ ascii ">") end_good (good_append n (ascii ">") (name_good n h) close_good)))
 
-pub sound_good : (c : Content) (d : ℕ) → is_sound c d ≡ true → first_bad (written c) ≡ none
+pub sound_good : (c : Content) (d : ℕ) → is_sound c d ≡ true → first_bad (written c) ≡ None
 unfolding is_sound is_clean written bad_from
 sound_good nothing d h = refl
 sound_good (child nm inner next) zero h = absurd (false≢true h)

@@ -1,10 +1,9 @@
 -- The elements of values are sound: their names are names, and their characters are clean.
 --     value_sound, parameter_value_sound    the element of a value of a property or of a parameter, in front of what follows
 --     values_sound    the elements of values
-use Rattle.std.specs.Prelude.{◌≡◌, refl, Bool, true, false, List, [], ◌∷◌, ℕ, suc}
+use Rattle.std.specs.Prelude.{◌≡◌, refl, Bool, true, false, List, [], ◌∷◌, ℕ, suc, Option, None, Some}
 use Rattle.std.proofs.Common.{sym, ap, ◌∙◌}
 use Rattle.std.proofs.lemmas.Bool.{false≢true}
-use Rattle.std.proofs.Math.Option.{Option, none, some}
 use Rattle.octets.specs.Ascii.{ascii}
 use Rattle.octets.specs.laws.Pick.{and_both, and_yes}
 use Rattle.octets.specs.Class.{lower}
@@ -46,8 +45,8 @@ item_name : (n : List ℕ) (i : RuleItem) → is_item n i ≡ true → is_name (
 item_name n i h = go (part_of n) refl h
   where
     go : (o : Option Part) → part_of n ≡ o → is_for o i ≡ true → is_name (lower n) ≡ true
-    go none e k = absurd (false≢true k)
-    go (some r) e k =
+    go None e k = absurd (false≢true k)
+    go (Some r) e k =
         ap (λ (x : List ℕ). is_name (lower x)) (sym (row_named (λ (r : Part). r.name) n part_table r e))
         ∙ row_passes (λ (r : Part). r.name) n (λ (r : Part). is_name (lower r.name)) part_table r table_names e
 
@@ -92,8 +91,8 @@ own_sound v t h k next d s =
     v t h k
   where
     data_sound : (x : Option (List ℕ)) → is_clean_data x ≡ true → is_sound (data_before x next) (suc d) ≡ true
-    data_sound none k = s
-    data_sound (some x) k = leaf_sound (ascii "data") x next d refl k s
+    data_sound None k = s
+    data_sound (Some x) k = leaf_sound (ascii "data") x next d refl k s
 
 pub child_sound : (n : List ℕ) (inner next : Content) (d : ℕ) → is_name n ≡ true → is_sound inner d ≡ true → is_sound next (suc d) ≡ true → is_sound (child n inner next) (suc d) ≡ true
 unfolding is_sound

@@ -1,12 +1,11 @@
 -- The values of a property that are spelled as their type says, read from elements that are not refused.
 --     typed_values_accepted    they are of the property's type, and as many as it takes
-use Rattle.std.specs.Prelude.{◌≡◌, Bool}
+use Rattle.std.specs.Prelude.{◌≡◌, Bool, Option, None, Some}
 use Rattle.std.proofs.Math.Path.{refl, ap}
 use Rattle.std.proofs.Common.{sym, subst, ◌∙◌, arith}
 use Rattle.std.proofs.Math.Bool.{true, false, not}
 use Rattle.std.proofs.lemmas.Bool.{false≢true}
 use mathlib.Core.List.{List, [], ◌∷◌}
-use Rattle.std.proofs.Math.Option.{Option, none, some}
 use Prim.Native.Nat.{ℕ, suc, ◌≤◌, ◌<◌}
 use borrow.Author.Tests.{ltb-false, not-true}
 use Rattle.octets.specs.Ascii.{ascii}
@@ -40,23 +39,23 @@ use Rattle.xcal.proofs.laws.GoodNodes.{is_good}
 
 -- ---- slots
 
-slot_small : (m : List ℕ) (l : Bool) (y : ℕ × Bool) → slot_of m (typed_slots l) 0 ≡ some y → y.0 ≤ 1
+slot_small : (m : List ℕ) (l : Bool) (y : ℕ × Bool) → slot_of m (typed_slots l) 0 ≡ Some y → y.0 ≤ 1
 unfolding pick
 slot_small m l y h = go (is_one_of m (ascii "parameters" ∷ [])) (is_one_of m type_elements) h
   where
-    first : (x : ℕ × Bool) → x.0 ≤ 1 → some x ≡ some y → y.0 ≤ 1
+    first : (x : ℕ × Bool) → x.0 ≤ 1 → Some x ≡ Some y → y.0 ≤ 1
     first x g e = let z : x ≡ y = cc in rw (← z) g
 
-    go : (a b : Bool) → pick a (some (0, false)) (pick b (some (1, l)) none) ≡ some y → y.0 ≤ 1
+    go : (a b : Bool) → pick a (Some (0, false)) (pick b (Some (1, l)) None) ≡ Some y → y.0 ≤ 1
     go true b k = first (0, false) (omega arith) k
     go false true k = first (1, l) (omega arith) k
     go false false k = none-some k
 
-slot_second : (m : List ℕ) (l : Bool) (y : ℕ × Bool) → same m (ascii "parameters") ≡ false → slot_of m (typed_slots l) 0 ≡ some y → y ≡ (1, l)
+slot_second : (m : List ℕ) (l : Bool) (y : ℕ × Bool) → same m (ascii "parameters") ≡ false → slot_of m (typed_slots l) 0 ≡ Some y → y ≡ (1, l)
 unfolding pick is_one_of ◌or◌
 slot_second m l y o h = go (is_one_of m type_elements) (rw o at h)
   where
-    go : (b : Bool) → pick b (some (1, l)) none ≡ some y → y ≡ (1, l)
+    go : (b : Bool) → pick b (Some (1, l)) None ≡ Some y → y ≡ (1, l)
     go true k = cc
     go false k = none-some k
 
@@ -102,17 +101,17 @@ module _ (ed : Edition) where
 
     -- `parameters`, or an element of the type
     child_type : (m : List ℕ) (p x : ℕ) (kids : Nodes) → same m (ascii "parameters") ≡ false → child_verdict ed k n t p m x kids ≡ fine →
-        (element_type m ≡ some t) × (is_type_of t (permitted_types n) ≡ true) × (typed_verdict k n t p x kids ≡ fine)
+        (element_type m ≡ Some t) × (is_type_of t (permitted_types n) ≡ true) × (typed_verdict k n t p x kids ≡ fine)
     unfolding value_verdict pick
     child_type m p x kids o h = go (element_type m) refl (rw (o, g, s) at h)
       where
-        go : (w : Option ValueType) → element_type m ≡ w → as_typed w k n t p x kids ≡ fine → (element_type m ≡ some t) × (is_type_of t (permitted_types n) ≡ true) × (typed_verdict k n t p x kids ≡ fine)
-        go none e h = refused_not VALUE p h
-        go (some u) e h =
+        go : (w : Option ValueType) → element_type m ≡ w → as_typed w k n t p x kids ≡ fine → (element_type m ≡ Some t) × (is_type_of t (permitted_types n) ≡ true) × (typed_verdict k n t p x kids ≡ fine)
+        go None e h = refused_not VALUE p h
+        go (Some u) e h =
             let a = test_fine (is_type_of u (permitted_types n) and same_type u t) _ VALUE p h in
             let b = and_both (is_type_of u (permitted_types n)) _ a.0 in
             let z : u ≡ t = same_type_true u t b.1 in
-            (e ∙ ap (λ (w : ValueType). some w) z, rw z at b.0, rw z at a.1)
+            (e ∙ ap (λ (w : ValueType). Some w) z, rw z at b.0, rw z at a.1)
 
     -- ---- the values
 
@@ -164,7 +163,7 @@ module _ (ed : Edition) where
         let a = admitted-fine (slot_of m (typed_slots l) 0) next p m (child_verdict ed k n t p m y kids) _ h in
         go (same m (ascii "parameters")) refl a.3 a.0 a.1 a.4 (one_only f more _ (m ∷ seen) x a.4)
       where
-        go : (w : Bool) → same m (ascii "parameters") ≡ w → child_verdict ed k n t p m y kids ≡ fine → (z : ℕ × Bool) → slot_of m (typed_slots l) 0 ≡ some z → From more (pick z.1 z.0 (suc z.0)) (m ∷ seen) x →
+        go : (w : Bool) → same m (ascii "parameters") ≡ w → child_verdict ed k n t p m y kids ≡ fine → (z : ℕ × Bool) → slot_of m (typed_slots l) 0 ≡ Some z → From more (pick z.1 z.0 (suc z.0)) (m ∷ seen) x →
             at_most_one (typed_values more) ≡ true → at_most_one (one_of (element_type m) kids (typed_values more)) ≡ true
         go true e v z o r ih = rw (same_true m (ascii "parameters") e, no_type) ih
         go false e v z o r ih =

@@ -2,10 +2,9 @@
 --     is_clean_content  content that is character data, of clean characters
 --     typed_accepted    the value that the content of an element states
 --     value_clean       is clean
-use Rattle.std.specs.Prelude.{◌≡◌, refl, Bool, true, false, List, [], ℕ}
+use Rattle.std.specs.Prelude.{◌≡◌, refl, Bool, true, false, List, [], ℕ, Option, None, Some}
 use Rattle.std.proofs.Common.{sym, ap, ◌∙◌}
 use Rattle.std.proofs.lemmas.Bool.{false≢true}
-use Rattle.std.proofs.Math.Option.{Option, none, some}
 use Rattle.octets.specs.Ascii.{ascii}
 use Rattle.octets.specs.Pick.{pick, ◌and◌, ◌or◌}
 use Rattle.octets.specs.laws.Pick.{and_yes}
@@ -56,22 +55,22 @@ is_clean_content kids = has_element kids or is_clean (characters_of kids)
 -- ---- of the type asked for
 
 -- a value that is read has the type
-pub read_typed : (t : ValueType) (s : List ℕ) (v : Value) → read_value xcal t s ≡ some v → is_of_type t v ≡ true
+pub read_typed : (t : ValueType) (s : List ℕ) (v : Value) → read_value xcal t s ≡ Some v → is_of_type t v ≡ true
 read_typed t s v h = let a = value_accepted xcal t s v h in and_yes _ _ (rw a.2 (same_type_self t)) (and_yes _ _ a.1 a.0)
 
 -- the characters of a value, or a word of a closed set
 pub word_accepted : (o : Option (List (List ℕ))) (t : ValueType) (s : List ℕ) → OfText o t → read_word_of o t s ≡ true → is_chosen o t (read_or (text []) (read_value xcal t s)) ≡ true
 unfolding read_value read_or
-word_accepted none t s f h = read_passes (text []) (read_value xcal t s) (is_of_type t) h (read_typed t s)
-word_accepted (some words) t s f h = rw (f words refl) h
+word_accepted None t s f h = read_passes (text []) (read_value xcal t s) (is_of_type t) h (read_typed t s)
+word_accepted (Some words) t s f h = rw (f words refl) h
 
-other_type : {X : Type 0} (t u : ValueType) (words : List (List ℕ)) → OfText (some words) t → same_type t u ≡ true → same_type TEXT u ≡ false → X
+other_type : {X : Type 0} (t u : ValueType) (words : List (List ℕ)) → OfText (Some words) t → same_type t u ≡ true → same_type TEXT u ≡ false → X
 other_type t u words f h k = absurd (false≢true (sym k ∙ ap (λ (w : ValueType). same_type w u) (sym (f words refl)) ∙ h))
 
 period_typed : (o : Option (List ℕ)) (kids : Nodes) → is_value (period_of o kids) ≡ true → is_of_type PERIOD (period_of o kids) ≡ true
 unfolding same_type ◌and◌
-period_typed none kids h = h
-period_typed (some s) kids h = h
+period_typed None kids h = h
+period_typed (Some s) kids h = h
 
 -- the verdict on an element of type t with the closed set o
 pub typed_accepted : (k n : List ℕ) (t : ValueType) (p e : ℕ) (kids : Nodes) → OfText (property_words k n) t → typed_verdict k n t p e kids ≡ fine → is_chosen (property_words k n) t (value_of t kids) ≡ true
@@ -81,10 +80,10 @@ typed_accepted k n t p e kids f h = go (same_type t PERIOD) refl (same_type t RE
     go : (a : Bool) → same_type t PERIOD ≡ a → (b : Bool) → same_type t RECUR ≡ b → (o : Option (List (List ℕ))) → property_words k n ≡ o → OfText o t →
         pick a (sequence period_slots period_inside kids 0 [] e) (pick b (sequence recur_slots recur_inside kids 0 [] e) (leaf (read_word_of o t) p kids)) ≡ fine →
         is_chosen o t (pick a (period_of (child_named (ascii "duration") kids) kids) (pick b (recur (parts_of part_names kids)) (read_or (text []) (read_value xcal t (characters_of kids))))) ≡ true
-    go true x b y none z f h = rw (same_type_true t PERIOD x) (period_typed (child_named (ascii "duration") kids) kids (period_value kids e h))
-    go true x b y (some ws) z f h = other_type t PERIOD ws f x refl
-    go false x true y none z f h = rw (same_type_true t RECUR y) (rule_accepted kids e h)
-    go false x true y (some ws) z f h = other_type t RECUR ws f y refl
+    go true x b y None z f h = rw (same_type_true t PERIOD x) (period_typed (child_named (ascii "duration") kids) kids (period_value kids e h))
+    go true x b y (Some ws) z f h = other_type t PERIOD ws f x refl
+    go false x true y None z f h = rw (same_type_true t RECUR y) (rule_accepted kids e h)
+    go false x true y (Some ws) z f h = other_type t RECUR ws f y refl
     go false x false y o z f h = word_accepted o t (characters_of kids) f (leaf_accepted (read_word_of o t) p kids h).0
 
 -- ---- clean
@@ -96,7 +95,7 @@ clean_leaf kids e h = rw e at h
 abbrev Clean : Value → Type 0
 Clean v = is_clean_value v ≡ true
 
-pub read_clean : (t : ValueType) (s : List ℕ) (v : Value) → is_clean s ≡ true → read_value xcal t s ≡ some v → is_clean_value v ≡ true
+pub read_clean : (t : ValueType) (s : List ℕ) (v : Value) → is_clean s ≡ true → read_value xcal t s ≡ Some v → is_clean_value v ≡ true
 unfolding read_value every
 read_clean BINARY s v c h = made Clean binary (read_binary xcal s) v h (λ a e. refl)
 read_clean BOOLEAN s v c h = made Clean boolean (read_boolean xcal s) v h (λ a e. refl)
@@ -108,7 +107,7 @@ read_clean FLOAT s v c h = made Clean float (read_float s) v h (λ a e. refl)
 read_clean INTEGER s v c h = made Clean integer (read_integer s) v h (λ a e. refl)
 read_clean PERIOD s v c h = none-some h
 read_clean RECUR s v c h = none-some h
-read_clean TEXT s v c h = made Clean text (some s) v h (λ a e. let z : s ≡ a = cc in rw (← z) (one_clean s c))
+read_clean TEXT s v c h = made Clean text (Some s) v h (λ a e. let z : s ≡ a = cc in rw (← z) (one_clean s c))
 read_clean TIME s v c h = made Clean time (read_time xcal s) v h (λ a e. refl)
 read_clean URI s v c h = made Clean uri (read_uri s) v h (λ a e. refl)
 read_clean UTC-OFFSET s v c h = made Clean utc_offset (read_utc_offset xcal s) v h (λ a e. refl)
@@ -123,13 +122,13 @@ unfolding read_or
 read_or_clean t s c = go (read_value xcal t s) refl
   where
     go : (o : Option Value) → read_value xcal t s ≡ o → is_clean_value (read_or (text []) o) ≡ true
-    go none e = one_clean [] empty_clean
-    go (some v) e = read_clean t s v c e
+    go None e = one_clean [] empty_clean
+    go (Some v) e = read_clean t s v c e
 
 period_clean : (o : Option (List ℕ)) (kids : Nodes) → is_clean_value (period_of o kids) ≡ true
 unfolding every
-period_clean none kids = refl
-period_clean (some s) kids = refl
+period_clean None kids = refl
+period_clean (Some s) kids = refl
 
 pub value_clean : (k n : List ℕ) (t : ValueType) (p e : ℕ) (kids : Nodes) → typed_verdict k n t p e kids ≡ fine → is_clean_content kids ≡ true → is_clean_value (value_of t kids) ≡ true
 unfolding typed_verdict value_of pick every

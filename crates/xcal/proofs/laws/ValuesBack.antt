@@ -4,10 +4,9 @@
 --     typed_before     a value that is spelled as its type says is an element named as its type
 --     values_back      the values that the elements of values state
 --     element_type_lem  the name of a value's element names its type
-use Rattle.std.specs.Prelude.{◌≡◌, refl, true, false, List, [], ◌∷◌, ℕ}
+use Rattle.std.specs.Prelude.{◌≡◌, refl, true, false, List, [], ◌∷◌, ℕ, Some}
 use Rattle.std.proofs.Common.{ap}
 use Rattle.std.proofs.lemmas.Bool.{false≢true}
-use Rattle.std.proofs.Math.Option.{some}
 use Rattle.octets.specs.Pick.{pick, ◌and◌}
 use Rattle.octets.specs.laws.Pick.{and_both}
 use Rattle.octets.specs.Class.{lower}
@@ -147,7 +146,7 @@ typed_fine v t h k n w p x q =
 
 -- ---- the elements of values
 
-pub element_type_lem : (t : ValueType) → element_type (lower (type_name t)) ≡ some t
+pub element_type_lem : (t : ValueType) → element_type (lower (type_name t)) ≡ Some t
 unfolding schema_compute element_type
 element_type_lem BINARY = refl
 element_type_lem BOOLEAN = refl

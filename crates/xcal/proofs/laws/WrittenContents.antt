@@ -2,9 +2,8 @@
 --     value_written, values_written, parameters_written, properties_written    of each, in front of what follows
 --     calendar_written     of components
 --     document_written     a document is the content of its root, written
-use Rattle.std.specs.Prelude.{◌≡◌, refl, Bool, true, false, List, [], ◌∷◌, ℕ}
+use Rattle.std.specs.Prelude.{◌≡◌, refl, Bool, true, false, List, [], ◌∷◌, ℕ, Option, None, Some}
 use Rattle.std.proofs.Common.{sym, ap, ◌∙◌}
-use Rattle.std.proofs.Math.Option.{Option, none, some}
 use Rattle.octets.specs.Ascii.{ascii}
 use Rattle.octets.specs.Pick.{pick}
 use Rattle.octets.specs.Append.{◌⊕◌}
@@ -69,8 +68,8 @@ unfolding octets_compute
 recur_name = refl
 
 status_data : (x : Option (List ℕ)) (next : Content) → written (data_before x next) ≡ data_xml x ⊕ written next
-status_data none next = sym (append_empty (written next))
-status_data (some s) next = leaf_written (ascii "data") s next
+status_data None next = sym (append_empty (written next))
+status_data (Some s) next = leaf_written (ascii "data") s next
 
 pub value_written : (v : Value) (next : Content) → written (value_before v next) ≡ value_xml v ⊕ written next
 unfolding value_before inside value_xml

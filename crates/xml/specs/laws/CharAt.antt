@@ -1,11 +1,10 @@
 -- Laws of what specs/CharAt.antt defines.
 --     chars_none, chars_byte, chars_reference    the characters from a place on, by the character there
-use Rattle.std.specs.Prelude.{◌≡◌, Bool, true, false, ℕ, ◌+◌, ◌-◌, ◌≤◌, ◌<◌, eqb, length}
+use Rattle.std.specs.Prelude.{◌≡◌, Bool, true, false, ℕ, ◌+◌, ◌-◌, ◌≤◌, ◌<◌, eqb, length, Option, None, Some}
 use Rattle.std.proofs.Math.Path.{refl}
 use Rattle.std.proofs.Common.{sym, ap, ◌∙◌, length-drop}
 use Rattle.std.proofs.lemmas.Bool.{false≢true}
 use mathlib.Core.List.{List, [], ◌∷◌}
-use Rattle.std.proofs.Math.Option.{Option, none, some}
 use native.Mathlib.Omega.{arith}
 use Rattle.std.proofs.Math.ListN.{drop}
 use borrow.Author.Tests.{eq-eqb, ne_eqb, lt-ltb, le-ltb}
@@ -60,13 +59,13 @@ module _ {t : Token} {s : List ℕ} {at : ℕ} where
 -- a tag is no character
 started : (P : Token → Type 0) → ((nm : List ℕ) (k : ℕ) → P (s_tag nm k)) → ((nm : List ℕ) (k : ℕ) → P (empty_elem_tag nm k)) → P no_token → (o : Option ℕ) (s : List ℕ) → P (start_by o s)
 unfolding start_by
-started P a b f none s = f
-started P a b f (some n) s = pick_either P _ _ _ (a _ _) (pick_either P _ _ _ (b _ _) f)
+started P a b f None s = f
+started P a b f (Some n) s = pick_either P _ _ _ (a _ _) (pick_either P _ _ _ (b _ _) f)
 
 ended : (P : Token → Type 0) → ((nm : List ℕ) (k : ℕ) → P (e_tag nm k)) → P no_token → (o : Option ℕ) (s : List ℕ) → P (end_by o s)
 unfolding end_by
-ended P c f none s = f
-ended P c f (some n) s = c _ _
+ended P c f None s = f
+ended P c f (Some n) s = c _ _
 
 pub tag_cases : (P : Token → Type 0) → ((nm : List ℕ) (k : ℕ) → P (s_tag nm k)) → ((nm : List ℕ) (k : ℕ) → P (empty_elem_tag nm k)) → ((nm : List ℕ) (k : ℕ) → P (e_tag nm k)) → P no_token →
     (s : List ℕ) → P (tag s)

@@ -1,11 +1,10 @@
 -- Laws of what specs/CleanRuns.antt defines.
 --     Run             characters that go on in the middle of one
 --     run_clean       the characters of a run;   past_run: after a tag or a reference
-use Rattle.std.specs.Prelude.{◌≡◌, Bool, true, false, List, [], ◌∷◌, ℕ, zero, suc, ◌+◌, ◌≤◌, eqb, leb, ltb}
+use Rattle.std.specs.Prelude.{◌≡◌, Bool, true, false, List, [], ◌∷◌, ℕ, zero, suc, ◌+◌, ◌≤◌, eqb, leb, ltb, None}
 use Rattle.std.proofs.Math.Path.{refl}
 use Rattle.std.proofs.Common.{sym, ap, subst, ◌∙◌, arith, drop-drop}
 use Rattle.std.proofs.lemmas.Bool.{false≢true}
-use Rattle.std.proofs.Math.Option.{none}
 use Rattle.std.proofs.Math.ListN.{drop}
 use borrow.Author.Tests.{eqb-true, ne_eqb, ltb-true, ltb-false}
 use Rattle.octets.specs.Ascii.{ascii}
@@ -27,7 +26,7 @@ use Rattle.xml.specs.CleanRuns.{run_by, run_of}
 -- characters that go on in the middle of one, of which j bytes are still to come
 pub record Run (j lo hi : ℕ) (l : Bool) (run : List ℕ) : Type 0 where
   pub tail : tails j lo hi l run ≡ true
-  pub good : (i : ℕ) → bad_from j i run ≡ none
+  pub good : (i : ℕ) → bad_from j i run ≡ None
   pub plain : holds 13 run ≡ false
 
 empty_run : (lo hi : ℕ) (l : Bool) → Run 0 lo hi l []
@@ -68,10 +67,10 @@ next_run b j lo hi l run h c r = record { tail = and_yes _ _ h r.tail; good = λ
 
 -- k bytes are passed over, which belong to a token before
 abbrev pub Runs : List ℕ → Type 0
-Runs s = (k p j i lo hi : ℕ) (l : Bool) → 0x80 ≤ lo → tails j lo hi l (drop k s) ≡ true → bad_from j i (drop k s) ≡ none → Run j lo hi l (run_of (scan s p k))
+Runs s = (k p j i lo hi : ℕ) (l : Bool) → 0x80 ≤ lo → tails j lo hi l (drop k s) ≡ true → bad_from j i (drop k s) ≡ None → Run j lo hi l (run_of (scan s p k))
 
 -- past a byte of ASCII a character begins
-ends_good : (s : List ℕ) (k : ℕ) → State s → Ends s k → (i : ℕ) × (bad_from 0 i (drop k s) ≡ none)
+ends_good : (s : List ℕ) (k : ℕ) → State s → Ends s k → (i : ℕ) × (bad_from 0 i (drop k s) ≡ None)
 ends_good s k st e =
     let w : k ≡ e.before + 1 = omega (arith, e.counted) in
     let z : e.rest ≡ drop k s = ap (drop 1) (sym e.there) ∙ drop-drop 1 e.before s ∙ ap (λ (n : ℕ). drop n s) (sym w) in
@@ -87,7 +86,7 @@ unfolding token literal_byte pick ◌and◌
 high_token b s h = rw (ne_eqb b 60 (λ e. omega arith), ne_eqb b 38 (λ e. omega arith), ne_eqb b 13 (λ e. omega arith), ne_eqb b 93 (λ e. omega arith))
 
 -- a token at the front of a character
-module _ (b : ℕ) (s : List ℕ) (p i lo hi : ℕ) (l : Bool) (g : 0x80 ≤ lo) (h : bad_from 0 i (b ∷ s) ≡ none) (ih : Runs s) where
+module _ (b : ℕ) (s : List ℕ) (p i lo hi : ℕ) (l : Bool) (g : 0x80 ≤ lo) (h : bad_from 0 i (b ∷ s) ≡ None) (ih : Runs s) where
   abbrev Reads : Token → Type 0
   Reads t = Run 0 lo hi l (run_of (marks_by t p (scan s (p + 1))))
 

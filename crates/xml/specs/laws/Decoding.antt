@@ -2,10 +2,9 @@
 --     State           where a decoder stands that has found nothing bad;   step_state, drop_state, after_ascii: it goes on
 --     Ends            so many bytes end with a byte of ASCII
 --     start_by_lem, tag_by, reference_by  what tags and references are read as
-use Rattle.std.specs.Prelude.{◌≡◌, refl, Bool, true, false, List, [], ◌∷◌, ℕ, zero, suc, ◌+◌, ◌≤◌, ◌<◌, eqb, leb, ltb, length, take, drop}
+use Rattle.std.specs.Prelude.{◌≡◌, refl, Bool, true, false, List, [], ◌∷◌, ℕ, zero, suc, ◌+◌, ◌≤◌, ◌<◌, eqb, leb, ltb, length, take, drop, Option, None, Some}
 use Rattle.std.proofs.Common.{sym, ap, ◌∙◌, arith, drop-drop, eqb-true}
 use Rattle.std.proofs.lemmas.Bool.{false≢true}
-use Rattle.std.proofs.Math.Option.{Option, none, some}
 use Rattle.octets.specs.Ascii.{ascii}
 use Rattle.octets.specs.Pick.{pick, ◌and◌, ◌or◌, within}
 use Rattle.octets.specs.laws.Pick.{pick_case, pick_either, and_both, and_yes, within_range, or_left}
@@ -31,18 +30,18 @@ pub record State (s : List ℕ) : Type 0 where
   pub last : Bool
   pub above : 0x80 ≤ least
   pub tail : tails pending least most last s ≡ true
-  pub good : bad_from pending at s ≡ none
+  pub good : bad_from pending at s ≡ None
 
 -- a character begins
-pub begun : (b : ℕ) (s : List ℕ) (i : ℕ) → bad_from 0 i (b ∷ s) ≡ none → (is_sequence b s ≡ true) × (bad_from (more b) (i + 1) s ≡ none)
+pub begun : (b : ℕ) (s : List ℕ) (i : ℕ) → bad_from 0 i (b ∷ s) ≡ None → (is_sequence b s ≡ true) × (bad_from (more b) (i + 1) s ≡ None)
 unfolding bad_from pick
 begun b s i h = go (is_sequence b s) refl h
   where
-    go : (t : Bool) → is_sequence b s ≡ t → pick t (bad_from (more b) (i + 1) s) (some i) ≡ none → (t ≡ true) × (bad_from (more b) (i + 1) s ≡ none)
+    go : (t : Bool) → is_sequence b s ≡ t → pick t (bad_from (more b) (i + 1) s) (Some i) ≡ None → (t ≡ true) × (bad_from (more b) (i + 1) s ≡ None)
     go true e k = (refl, k)
     go false e k = none-some (sym k)
 
-from_state : (b : ℕ) (s : List ℕ) (j i lo hi : ℕ) (l : Bool) → 0x80 ≤ lo → tails j lo hi l (b ∷ s) ≡ true → bad_from j i (b ∷ s) ≡ none → State s
+from_state : (b : ℕ) (s : List ℕ) (j i lo hi : ℕ) (l : Bool) → 0x80 ≤ lo → tails j lo hi l (b ∷ s) ≡ true → bad_from j i (b ∷ s) ≡ None → State s
 unfolding bad_from tails
 from_state b s zero i lo hi l g t h =
     let a = begun b s i h in
@@ -59,11 +58,11 @@ drop_state (suc n) [] st = st
 drop_state (suc n) (b ∷ s) st = drop_state n s (step_state b s st)
 
 -- after a byte of ASCII a character begins
-pub after_ascii : (c : ℕ) (r : List ℕ) → c < 0x80 → is_ascii c ≡ true → State (c ∷ r) → (i : ℕ) × (bad_from 0 i r ≡ none)
+pub after_ascii : (c : ℕ) (r : List ℕ) → c < 0x80 → is_ascii c ≡ true → State (c ∷ r) → (i : ℕ) × (bad_from 0 i r ≡ None)
 unfolding tails
 after_ascii c r u a st = go st.pending st.at st.least st.most st.last st.above st.tail st.good
   where
-    go : (j i lo hi : ℕ) (l : Bool) → 0x80 ≤ lo → tails j lo hi l (c ∷ r) ≡ true → bad_from j i (c ∷ r) ≡ none → (i : ℕ) × (bad_from 0 i r ≡ none)
+    go : (j i lo hi : ℕ) (l : Bool) → 0x80 ≤ lo → tails j lo hi l (c ∷ r) ≡ true → bad_from j i (c ∷ r) ≡ None → (i : ℕ) × (bad_from 0 i r ≡ None)
     go zero i lo hi l g t h = (i + 1, sym (ascii_first c i r a) ∙ h)
     go (suc j) i lo hi l g t h = let w = within_range lo hi c (and_both (within lo hi c) _ t).0 in absurd (omega arith)
 
@@ -136,7 +135,7 @@ unfolding ◌and◌ ◌or◌
 no_letter = refl
 
 -- a name that was read is one
-pub name_read : (rest : Piece) (s : List ℕ) (n : ℕ) → (xml_name then rest) s ≡ some n → is_name (name_of s) ≡ true
+pub name_read : (rest : Piece) (s : List ℕ) (n : ℕ) → (xml_name then rest) s ≡ Some n → is_name (name_of s) ≡ true
 unfolding ◌then◌ xml_name name_of first is_name
 name_read rest s n h = go s (provided-some (is_alpha (first s)) (span_len is_name_char s) _ (and_then-some (xml_name s) (λ m. both m (rest (from m s))) n h).1).0
   where
@@ -147,10 +146,10 @@ name_read rest s n h = go s (provided-some (is_alpha (first s)) (span_len is_nam
         ap is_name (span_cons is_name_char b r c) ∙ and_yes _ _ k (all_cons is_name_char b (take (span_len is_name_char r) r) c (all_span is_name_char r))
 
 pub start_by_lem : (Q : Token → Type 0) (s : List ℕ) → ((k : ℕ) → is_name (name_of s) ≡ true → Ends s k → Q (s_tag (name_of s) k)) → ((k : ℕ) → is_name (name_of s) ≡ true → Q (empty_elem_tag (name_of s) k)) → Q no_token →
-    (o : Option ℕ) → ((n : ℕ) → o ≡ some n → is_name (name_of s) ≡ true) → Q (start_by o s)
+    (o : Option ℕ) → ((n : ℕ) → o ≡ Some n → is_name (name_of s) ≡ true) → Q (start_by o s)
 unfolding utf8_compute start_by from
-start_by_lem Q s a b d none f = d
-start_by_lem Q s a b d (some n) f =
+start_by_lem Q s a b d None f = d
+start_by_lem Q s a b d (Some n) f =
     pick_case Q (starts (ascii ">") (from n s)) _ _
     (λ e. a (n + 1) (f n refl) (record {
       before = n;
@@ -171,8 +170,8 @@ tag_by Q s a b c d =
     (ends ((xml_name then any_space then exactly (ascii ">")) (from 1 s)) (from 1 s)) (start_by_lem Q s a b d ((xml_name then any_space) s) (name_read any_space s))
   where
     ends : (o : Option ℕ) (r : List ℕ) → Q (end_by o r)
-    ends none r = d
-    ends (some n) r = c (name_of r) (n + 1)
+    ends None r = d
+    ends (Some n) r = c (name_of r) (n + 1)
 
 -- ---- references
 

@@ -4,11 +4,10 @@
 --     marks_characters  character data without CR is read as its characters;   characters_then_end: with an end tag after it
 use Rattle.std.proofs.Math.Path.{◌≡◌, refl, ap}
 use Rattle.std.proofs.Common.{sym, ◌∙◌, arith, length-append, ne_eqb, eqb-true}
-use Rattle.std.specs.Prelude.{Bool, ℕ, suc, ◌+◌, eqb, length}
+use Rattle.std.specs.Prelude.{Bool, ℕ, suc, ◌+◌, eqb, length, None, Some}
 use Rattle.std.proofs.Math.Bool.{true, false}
 use Rattle.std.proofs.lemmas.Bool.{false≢true}
 use mathlib.Core.List.{List, [], ◌∷◌, ◌++◌, append_assoc}
-use Rattle.std.proofs.Math.Option.{none, some}
 use Rattle.std.proofs.Math.Nat.{add-zero}
 use Rattle.std.proofs.Math.Seq.{take-append_seam, drop-append_seam}
 use Rattle.octets.specs.Ascii.{ascii}
@@ -46,7 +45,7 @@ module _ (a : ℕ) (w r : List ℕ) (h : is_name (a ∷ w) ≡ true) where
   unfolding is_name ◌or◌ ◌and◌
   named = span_front is_name_char (a ∷ w) (62 ∷ r) (and_both (is_alpha a) (all_of is_name_char (a ∷ w)) h).1 (stops_at is_name_char 62 r refl)
 
-  name_read : xml_name ((a ∷ w) ++ (62 ∷ r)) ≡ some (suc (length w))
+  name_read : xml_name ((a ∷ w) ++ (62 ∷ r)) ≡ Some (suc (length w))
   unfolding xml_name first pick
   name_read = rw (alpha, named)
 
@@ -127,11 +126,11 @@ module _ (r : List ℕ) (p : ℕ) where
 
   token_byte : (b : ℕ) → eqb b 38 ≡ false → eqb b 60 ≡ false → eqb b 13 ≡ false → starts (ascii "]>") r ≡ false → token b r ≡ char_byte b 0
   unfolding token literal_byte pick ◌and◌
-  token_byte b e₁ e₂ e₃ np = rw (e₂, e₁, e₃, np) (none (eqb b 93))
+  token_byte b e₁ e₂ e₃ np = rw (e₂, e₁, e₃, np) (None (eqb b 93))
     where
-      none : (t : Bool) → pick (t and false) no_token (char_byte b 0) ≡ char_byte b 0
-      none true = refl
-      none false = refl
+      None : (t : Bool) → pick (t and false) no_token (char_byte b 0) ≡ char_byte b 0
+      None true = refl
+      None false = refl
 
   byte_read : (b : ℕ) → eqb b 38 ≡ false → eqb b 60 ≡ false → eqb b 62 ≡ false → eqb b 13 ≡ false → starts (ascii "]>") r ≡ false →
       marks p (escaped_byte b ⊕ r) ≡ character_mark p b ∷ marks (p + length (escaped_byte b)) r

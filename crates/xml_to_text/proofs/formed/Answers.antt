@@ -7,10 +7,10 @@ use borrow.Author.Rules.{rules}
 use Rattle.xml_to_text.proofs.formed.Goals as goal
 
 pub judged-requires : goal.judged-requires
-judged-requires c = (omega (arith, c.requires), c.in-Fine.ensures.is)
+judged-requires c = (omega (arith, c.requires), c.in-Ok.ensures.is)
 
-pub returns-in-Refused : goal.returns-in-Refused
-returns-in-Refused c = xml_refused _ c.args.s.now c.args.out.now c.in-Refused.ensures.is
+pub returns-in-Err : goal.returns-in-Err
+returns-in-Err c = xml_refused _ c.args.s.now c.args.out.now c.in-Err.fault c.in-Err.ensures.is c.from.ensures
 
-pub returns-in-Fine : goal.returns-in-Fine
-returns-in-Fine c = xml_fine _ c.args.s.now c.args.out.now c.in-Fine.ensures.is c.judged.ensures
+pub returns-in-Ok : goal.returns-in-Ok
+returns-in-Ok c = xml_fine _ c.args.s.now c.args.out.now c.in-Ok.ensures.is c.judged.ensures

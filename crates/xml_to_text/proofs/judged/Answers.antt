@@ -10,8 +10,8 @@ root_verdict-requires c = (c.requires.0, c.root_node-t.ensures.name_within)
 pub lined-requires : goal.lined-requires
 lined-requires c = (c.requires.0, root_bound _ c.root_node-t.ensures c.requires.1)
 
-pub returns-in-Refused : goal.returns-in-Refused
-returns-in-Refused c = root_refused _ c.root_node-t.ensures c.requires.1 c.root_verdict.ensures c.args.out.now c.in-Refused.n c.in-Refused.is c.refused.ensures
+pub returns-in-Err : goal.returns-in-Err
+returns-in-Err c = root_refused _ c.root_node-t.ensures c.requires.1 c.root_verdict.ensures c.args.out.now c.in-Err.fault c.in-Err.is c.from.ensures
 
-pub returns-in-Fine : goal.returns-in-Fine
-returns-in-Fine c = root_fine _ c.root_node-t.ensures c.requires.1 c.root_verdict.ensures c.args.out.now c.in-Fine.is c.lined.ensures
+pub returns-in-Ok : goal.returns-in-Ok
+returns-in-Ok c = root_fine _ c.root_node-t.ensures c.requires.1 c.root_verdict.ensures c.args.out.now c.in-Ok.is c.lined.ensures

@@ -12,4 +12,4 @@ use Rattle.xml_to_text.proofs.written_at_once.Goals as goal
 pub returns : goal.returns
 returns c = let k : length (write_calendar c.args.edition (read_calendars (nodes_at c.args.s.now c.args.from))) < 2 ^ 63 = omega (arith, c.requires.0, c.requires.2) in
     let f : length (write_calendar c.args.edition (read_calendars (nodes_at c.args.s.now c.args.from))) ≤ length c.args.out.now = omega (arith, c.requires.2, c.requires.3) in
-    done_at_once k f c.put_calendar-n.ensures.put
+    done_at_once k f c.put_calendar.ensures.put

@@ -12,5 +12,5 @@ past [] i h = refl
 past (x ∷ l) zero h = absurd (omega arith)
 past (x ∷ l) (suc i) h = past l i (omega arith)
 
-pub returns : goal.returns
-returns c = past c.args.a.now c.args.i (omega arith)
+pub returns-else-i-a : goal.returns-else-i-a
+returns-else-i-a c = past c.args.a.now c.args.i (omega arith)

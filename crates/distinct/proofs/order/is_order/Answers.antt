@@ -4,19 +4,17 @@ use Rattle.distinct.specs.laws.Rising.{ranked_start, ranked_more, ranked_end}
 use mathlib.Core.Bool.{false≢true}
 use Prim.Native.Nat.{◌-◌}
 use borrow.Author.Rules.{rules}
+use native.Mathlib.Omega.{arith}
 use Rattle.distinct.proofs.order.is_order.Goals as goal
 
 pub loop-p-init : goal.loop-p-init
 loop-p-init c = ranked_start
 
 pub loop-p-preserved : goal.loop-p-preserved
-loop-p-preserved c = ranked_more c.loop-p.invariant c.number_at-r.ensures c.if-r-n.true c.number_at-q.ensures c.if-q-p.true
+loop-p-preserved c = ranked_more c.loop-p.invariant c.number_at-r.ensures (omega (arith, c.if-n-r.false)) c.number_at.ensures c.if-number_at-p.false
 
-pub returns-else-q-p : goal.returns-else-q-p
-returns-else-q-p c = λ h. absurd (false≢true h)
-
-pub returns-else-r-n : goal.returns-else-r-n
-returns-else-r-n c = λ h. absurd (false≢true h)
+pub returns-then-n-r : goal.returns-then-n-r
+returns-then-n-r c = λ h. absurd (false≢true h)
 
 pub returns : goal.returns
 returns c = λ h. ranked_end c.loop-p.invariant c.loop-p-test.false

@@ -1,7 +1,7 @@
 -- `names::packed::pack` meets its contract.
 use Prim.Native.Nat.{◌*◌, ◌-◌}
 use lib.ListN.{length}
-use Rattle.names.specs.laws.Packing.{Taking, taking, taking_more, taking_end}
+use Rattle.names.specs.laws.Packing.{Taking}
 use Rattle.names.proofs.packed.pack.Given as goal
 
 abbrev pub invariant-loop-n : goal.invariant-loop-n

@@ -1,7 +1,7 @@
 -- `names::packed::pack_plain` meets its contract.
 use Prim.Native.Nat.{◌-◌}
 use lib.ListN.{length}
-use Rattle.names.specs.laws.Packing.{Taking, taking_bytes, taking_bytes_end}
+use Rattle.names.specs.laws.Packing.{Taking}
 use Rattle.names.proofs.packed.pack_plain.Given as goal
 
 abbrev pub invariant-loop-c : goal.invariant-loop-c

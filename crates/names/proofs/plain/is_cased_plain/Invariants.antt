@@ -2,7 +2,6 @@
 use Prim.Native.Nat.{◌-◌}
 use lib.ListN.{length}
 use Rattle.names.specs.laws.Runs.{Comparing}
-use Rattle.names.specs.laws.Plain.{comparing_bytes, comparing_bytes_other}
 use Rattle.names.proofs.plain.is_cased_plain.Given as goal
 
 abbrev pub invariant-loop-i : goal.invariant-loop-i

@@ -1,10 +1,8 @@
 -- `names::plain::name_end_plain` meets its contract.
-use mathlib.Core.Path.{sym, ◌∙◌}
 use Prim.Native.Nat.{◌-◌}
 use lib.ListN.{length}
 use Rattle.octets.specs.Class.{is_name_char}
-use Rattle.names.specs.laws.Runs.{Running, name_end}
-use Rattle.names.specs.laws.Plain.{running_bytes_more, running_bytes_stop, running_bytes}
+use Rattle.names.specs.laws.Runs.{Running}
 use Rattle.names.proofs.plain.name_end_plain.Given as goal
 
 abbrev pub invariant-loop-c : goal.invariant-loop-c

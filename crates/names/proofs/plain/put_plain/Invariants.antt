@@ -1,10 +1,7 @@
 -- `names::plain::put_plain` meets its contract.
 use Prim.Native.Nat.{◌-◌}
-use native.Mathlib.Omega.{arith}
 use lib.ListN.{length}
-use Rattle.names.specs.laws.Case.{cased_small}
 use Rattle.names.specs.laws.Runs.{Copying}
-use Rattle.names.specs.laws.Plain.{copying_bytes}
 use Rattle.names.proofs.plain.put_plain.Given as goal
 
 abbrev pub invariant-loop-c : goal.invariant-loop-c

@@ -2,38 +2,14 @@
 use Rattle.sink.specs.laws.Sink.{writing}
 use Rattle.numbers.proofs.boolean.put_boolean.Goals as goal
 
-pub put_all-requires : goal.put_all-requires
-put_all-requires c = search writing
+pub returns-in-true-true : goal.returns-in-true-true
+returns-in-true-true c = rw (c.in-true-true.is-0, c.in-true-true.is-1) (search writing)
 
-pub shape_of-out-then-b : goal.shape_of-out-then-b
-shape_of-out-then-b c = search writing
+pub returns-in-true-false : goal.returns-in-true-false
+returns-in-true-false c = rw (c.in-true-false.is-0, c.in-true-false.is-1) (search writing)
 
-pub returns-then-b : goal.returns-then-b
-returns-then-b c = rw c.if-xcal.true (search writing)
+pub returns-in-false-true : goal.returns-in-false-true
+returns-in-false-true c = rw (c.in-false-true.is-0, c.in-false-true.is-1) (search writing)
 
-pub put_all-requires-then-xcal : goal.put_all-requires-then-xcal
-put_all-requires-then-xcal c = search writing
-
-pub shape_of-out-then-xcal : goal.shape_of-out-then-xcal
-shape_of-out-then-xcal c = search writing
-
-pub returns-then-xcal : goal.returns-then-xcal
-returns-then-xcal c = rw c.if-xcal.true (search writing)
-
-pub put_all-requires-then-b-2 : goal.put_all-requires-then-b-2
-put_all-requires-then-b-2 c = search writing
-
-pub shape_of-out-then-b-2 : goal.shape_of-out-then-b-2
-shape_of-out-then-b-2 c = search writing
-
-pub returns-then-b-2 : goal.returns-then-b-2
-returns-then-b-2 c = rw c.if-xcal.false (search writing)
-
-pub put_all-requires-2 : goal.put_all-requires-2
-put_all-requires-2 c = search writing
-
-pub shape_of-out : goal.shape_of-out
-shape_of-out c = search writing
-
-pub returns : goal.returns
-returns c = rw c.if-xcal.false (search writing)
+pub returns-in-false-false : goal.returns-in-false-false
+returns-in-false-false c = rw (c.in-false-false.is-0, c.in-false-false.is-1) (search writing)

@@ -1,6 +1,5 @@
 -- `numbers::boolean::read_text` meets its contract.
 use Rattle.numbers.specs.laws.ReadBoolean.{text_true, text_false, text_neither}
-use borrow.Author.Rules.{rules}
 use Rattle.numbers.proofs.boolean.read_text.Goals as goal
 
 pub returns-then-is_word_any_case : goal.returns-then-is_word_any_case

@@ -1,18 +1,12 @@
 -- `numbers::float::put_trimmed` meets its contract.
 use lib.ListN.{length}
-use native.Mathlib.Omega.{arith}
 use Prim.Native.Nat.{◌≤◌, ◌-◌, ◌*◌}
 use mathlib.Core.Path.{◌≡◌}
 use Rattle.sink.specs.Sink.{Todo}
-use Rattle.sink.specs.laws.Sink.{todo_step, todo_done, writing}
 use Rattle.octets.specs.Append.{◌⊕◌}
-use Rattle.numbers.specs.laws.PutFloat.{todo_same, trim_all}
-use Rattle.numbers.specs.laws.Spans.{trim_end, trim_zero, trim_more}
 use Rattle.numbers.specs.Worth.{zeros}
 use Rattle.numbers.specs.Float.{no_trailing}
 use Rattle.numbers.specs.Until.{until}
-use Rattle.numbers.specs.laws.Until.{turn_byte, turn_end}
-use Rattle.sink.specs.laws.Sink.{writing}
 use Rattle.numbers.proofs.float.put_trimmed.Given as goal
 
 abbrev pub invariant-loop-t : goal.invariant-loop-t

@@ -1,6 +1,5 @@
 -- `numbers::float::read_float` meets its contract.
 use Rattle.numbers.specs.laws.ReadFloat.{float_all}
-use borrow.Author.Rules.{rules}
 use Rattle.numbers.proofs.float.read_float.Goals as goal
 
 pub returns : goal.returns

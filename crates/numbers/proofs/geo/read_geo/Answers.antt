@@ -1,19 +1,25 @@
 -- `numbers::geo::read_geo` meets its contract.
 use Rattle.numbers.specs.laws.ReadGeo.{geo_single, geo_triple, geo_no_latitude, geo_no_longitude, geo_both}
-use borrow.Author.Rules.{rules}
+use mathlib.Core.Path.{sym, ◌∙◌}
 use Rattle.numbers.proofs.geo.read_geo.Goals as goal
 
-pub returns-then-g : goal.returns-then-g
-returns-then-g c = geo_triple _ _ _ c.part_end-f.ensures c.part_end-g.ensures c.if-f.true c.if-g.true
+pub returns-in_err-longitude : goal.returns-in_err-longitude
+returns-in_err-longitude c = rw c.from_residual.ensures (geo_single _ _ _ c.after_first.ensures c.in_err-longitude.was)
 
-pub returns-then-b : goal.returns-then-b
-returns-then-b c = geo_both _ _ _ c.part_end-f.ensures c.part_end-g.ensures c.if-f.true c.if-g.false c.is_float-a.ensures c.if-a.true c.is_float-b.ensures c.if-b.true
+pub returns-then-is_some : goal.returns-then-is_some
+returns-then-is_some c = geo_triple _ _ _ c.after_first.ensures c.in_ok-longitude.was c.after_first-2.ensures (sym c.is_some.ensures ∙ c.if-is_some.true)
 
-pub returns-then-a : goal.returns-then-a
-returns-then-a c = geo_no_longitude _ _ _ c.part_end-f.ensures c.part_end-g.ensures c.if-f.true c.if-g.false c.is_float-b.ensures c.if-b.false
+pub returns-in_err-float_to : goal.returns-in_err-float_to
+returns-in_err-float_to c =
+    rw c.from_residual-in_err-float_to.ensures
+    (geo_no_latitude _ _ _ c.after_first.ensures c.in_ok-longitude.was c.after_first-2.ensures (sym c.is_some.ensures ∙ c.if-is_some.false) (rw c.in_err-float_to.was at c.float_to.ensures))
 
-pub returns-then-f : goal.returns-then-f
-returns-then-f c = geo_no_latitude _ _ _ c.part_end-f.ensures c.part_end-g.ensures c.if-f.true c.if-g.false c.is_float-a.ensures c.if-a.false
+pub returns-in_err-read_float : goal.returns-in_err-read_float
+returns-in_err-read_float c =
+    rw c.from_residual-in_err-read_float.ensures
+    (geo_no_longitude _ _ _ c.after_first.ensures c.in_ok-longitude.was c.after_first-2.ensures (sym c.is_some.ensures ∙ c.if-is_some.false) (rw c.in_err-read_float.was at c.read_float.ensures))
 
 pub returns : goal.returns
-returns c = geo_single _ _ _ c.part_end-f.ensures c.if-f.false
+returns c =
+    geo_both _ _ _ c.after_first.ensures c.in_ok-longitude.was c.after_first-2.ensures (sym c.is_some.ensures ∙ c.if-is_some.false)
+    (rw c.in_ok-float_to.was at c.float_to.ensures) (rw c.in_ok-read_float.was at c.read_float.ensures)

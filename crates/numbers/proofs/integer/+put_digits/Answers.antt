@@ -1,6 +1,5 @@
 -- `numbers::integer::put_digits`, which calls itself, meets its contract.
 use Rattle.numbers.specs.laws.PutInteger.{putting}
-use Prim.Native.Nat.{ℕ, ◌<◌}
 use Rattle.numbers.proofs.integer.+put_digits.Goals as goal
 
 pub digit-requires : goal.digit-requires

@@ -1,6 +1,4 @@
 -- `numbers::integer::put_digits`, which calls itself, meets its contract.
-use Rattle.numbers.specs.laws.PutInteger.{putting}
-use Prim.Native.Nat.{ℕ, ◌<◌}
 use Rattle.numbers.proofs.integer.+put_digits.Given as goal
 
 abbrev pub decreases-put_digits : goal.decreases-put_digits

@@ -1,14 +1,16 @@
 -- `numbers::numeral::front_unit` meets its contract.
+use Rattle.std.proofs.Common.{rules}
 use Rattle.numbers.specs.laws.Numeral.{front_all, front_byte, front_letter}
 use Rattle.octets.specs.laws.Pick.{flag_yes, flag_no}
-use borrow.Author.Rules.{rules}
 use Rattle.numbers.proofs.numeral.front_unit.Goals as goal
+use Rattle.numbers.proofs.numeral.front_unit.Goals.{else-letters-via-then-letters+else-is_alpha, else-letters-via-else-letters}
 
-pub returns-then-a : goal.returns-then-a
-returns-then-a c = front_letter c.unit-t.ensures c.if-letters.true (flag_yes _ _ c.is_alpha-a.ensures c.if-a.true) (search rules)
-
-pub returns-then-letters : goal.returns-then-letters
-returns-then-letters c = front_byte c.unit-t.ensures c.if-letters.true (flag_no _ _ c.is_alpha-a.ensures c.if-a.false)
+pub returns-then-is_alpha : goal.returns-then-is_alpha
+returns-then-is_alpha c = front_letter c.unit-t.ensures c.if-letters.true (flag_yes _ _ c.is_alpha.ensures c.if-is_alpha.true) (search rules)
 
 pub returns : goal.returns
-returns c = front_all c.unit-t.ensures c.if-letters.false
+returns c =
+    elim c.else-letters.branch [
+      | else-letters-via-then-letters+else-is_alpha w ↦ front_byte c.unit-t.ensures w.if-letters.true (flag_no _ _ w.is_alpha.ensures w.if-is_alpha.false)
+      | else-letters-via-else-letters w ↦ front_all c.unit-t.ensures w.if-letters.false
+    ]

@@ -1,31 +1,20 @@
 -- `numbers::numeral::worth` meets its contract.
-use Rattle.numbers.specs.Numeral.{front, worth_to}
-use Rattle.numbers.specs.laws.Numeral.{worth_end, worth_low, worth_high, worth_more, worth_much, fronts_byte, fronts_end}
-use Rattle.source.specs.Source.{rest}
-use mathlib.Core.Path.{◌≡◌, refl, ◌∙◌}
-use Prim.Native.Nat.{◌≤◌, ◌-◌, ◌*◌}
-use native.Mathlib.Omega.{arith}
-use lib.ListN.{length}
-use borrow.Author.Rules.{rules}
+use Rattle.std.proofs.Common.{arith, sym, ◌∙◌}
+use Rattle.octets.specs.laws.Pick.{within_range}
+use Rattle.numbers.specs.laws.Numeral.{worth_end, worth_none, worth_more, worth_much, fronts_byte, fronts_end}
 use Rattle.numbers.proofs.numeral.worth.Goals as goal
 
-pub loop-t-init : goal.loop-t-init
-loop-t-init c = (omega arith, refl)
+pub returns-then-t-eq-END : goal.returns-then-t-eq-END
+returns-then-t-eq-END c = c.loop-t.invariant.1 ∙ worth_end _ _ (fronts_end c.front_unit-t.ensures c.if-t-eq-END.true) c.loop-t.invariant.0
 
-pub returns-then-u-eq-END : goal.returns-then-u-eq-END
-returns-then-u-eq-END c = c.loop-t.invariant.1 ∙ worth_end _ _ (fronts_end c.front_unit-t.ensures c.if-u-eq-END.true) c.loop-t.invariant.0
+pub returns-then-not-is_digit : goal.returns-then-not-is_digit
+returns-then-not-is_digit c = c.loop-t.invariant.1 ∙ worth_none _ _ (fronts_byte c.front_unit-t.ensures c.if-t-eq-END.false) (sym c.is_digit.ensures ∙ c.if-not-is_digit.true)
 
-pub returns-then-u-lt-ZERO : goal.returns-then-u-lt-ZERO
-returns-then-u-lt-ZERO c = c.loop-t.invariant.1 ∙ worth_low _ _ (fronts_byte c.front_unit-t.ensures c.if-u-eq-END.false) c.if-u-lt-ZERO.true
+pub overflow_sub-v : goal.overflow_sub-v
+overflow_sub-v c = omega (arith, within_range 48 57 _ (sym c.is_digit.ensures ∙ c.if-not-is_digit.false))
 
-pub returns-then-u-gt-NINE : goal.returns-then-u-gt-NINE
-returns-then-u-gt-NINE c = c.loop-t.invariant.1 ∙ worth_high _ _ (fronts_byte c.front_unit-t.ensures c.if-u-eq-END.false) c.if-u-gt-NINE.true
-
-pub returns-then-most-w : goal.returns-then-most-w
-returns-then-most-w c = c.loop-t.invariant.1 ∙ worth_much _ _ (fronts_byte c.front_unit-t.ensures c.if-u-eq-END.false) c.if-u-lt-ZERO.false c.if-u-gt-NINE.false c.if-most-w.true
-
-pub loop-t-smaller : goal.loop-t-smaller
-loop-t-smaller c = omega arith
+pub returns-then-most-v : goal.returns-then-most-v
+returns-then-most-v c = c.loop-t.invariant.1 ∙ worth_much _ _ (fronts_byte c.front_unit-t.ensures c.if-t-eq-END.false) (sym c.is_digit.ensures ∙ c.if-not-is_digit.false) c.if-most-v.true
 
 pub loop-t-preserved : goal.loop-t-preserved
-loop-t-preserved c = (c.if-most-w.false, c.loop-t.invariant.1 ∙ worth_more _ _ (fronts_byte c.front_unit-t.ensures c.if-u-eq-END.false) c.if-u-lt-ZERO.false c.if-u-gt-NINE.false)
+loop-t-preserved c = (c.if-most-v.false, c.loop-t.invariant.1 ∙ worth_more _ _ (fronts_byte c.front_unit-t.ensures c.if-t-eq-END.false) (sym c.is_digit.ensures ∙ c.if-not-is_digit.false))

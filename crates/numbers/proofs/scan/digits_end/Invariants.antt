@@ -1,13 +1,9 @@
 -- `numbers::scan::digits_end` meets its contract.
 use lib.ListN.{length}
-use native.Mathlib.Omega.{arith}
 use Prim.Native.Nat.{◌-◌, ◌*◌}
-use mathlib.Core.Path.{◌≡◌, refl, sym, ◌∙◌}
-use Rattle.numbers.specs.laws.Spans.{after_end, after_more, after_stop}
+use mathlib.Core.Path.{◌≡◌}
 use Rattle.numbers.specs.FloatParts.{after_digits}
 use Rattle.numbers.specs.Until.{until}
-use Rattle.numbers.specs.laws.Until.{turn_byte, turn_end}
-use borrow.Author.Rules.{rules}
 use Rattle.numbers.proofs.scan.digits_end.Given as goal
 
 abbrev pub invariant-loop-t : goal.invariant-loop-t

@@ -1,14 +1,10 @@
 -- `numbers::scan::only_zeros` meets its contract.
 use lib.ListN.{length}
-use native.Mathlib.Omega.{arith}
 use Prim.Native.Nat.{◌-◌, ◌*◌}
-use mathlib.Core.Path.{◌≡◌, refl, ◌∙◌}
-use Rattle.numbers.specs.laws.Spans.{zeros_end, zeros_more, zeros_stop}
+use mathlib.Core.Path.{◌≡◌}
 use Rattle.numbers.specs.Float.{no_trailing}
 use Rattle.octets.specs.Words.{is_empty}
 use Rattle.numbers.specs.Until.{until}
-use Rattle.numbers.specs.laws.Until.{turn_byte, turn_end}
-use borrow.Author.Rules.{rules}
 use Rattle.numbers.proofs.scan.only_zeros.Given as goal
 
 abbrev pub invariant-loop-t : goal.invariant-loop-t

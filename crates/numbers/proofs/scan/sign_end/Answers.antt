@@ -1,15 +1,16 @@
 -- `numbers::scan::sign_end` meets its contract.
-use native.Mathlib.Omega.{arith}
+use Rattle.std.proofs.Common.{arith}
 use Rattle.numbers.specs.laws.Spans.{sign_minus, sign_plus, sign_none}
 use Rattle.numbers.specs.laws.Until.{turn_byte}
-use borrow.Author.Rules.{rules}
 use Rattle.numbers.proofs.scan.sign_end.Goals as goal
+use Rattle.numbers.proofs.scan.sign_end.Goals.{then-t-eq-HYPHEN-via-then-t-eq-HYPHEN, then-t-eq-HYPHEN-via-else-t-eq-HYPHEN+then-t-eq-PLUS}
 
-pub returns-then-u-eq-HYPHEN : goal.returns-then-u-eq-HYPHEN
-returns-then-u-eq-HYPHEN c = sign_minus (turn_byte c.unit_to-t.ensures (λ e. omega arith)) c.if-u-eq-HYPHEN.true
-
-pub returns-then-u-eq-PLUS : goal.returns-then-u-eq-PLUS
-returns-then-u-eq-PLUS c = sign_plus (turn_byte c.unit_to-t.ensures (λ e. omega arith)) c.if-u-eq-PLUS.true
+pub returns-then-t-eq-HYPHEN : goal.returns-then-t-eq-HYPHEN
+returns-then-t-eq-HYPHEN c =
+    elim c.then-t-eq-HYPHEN.branch [
+      | then-t-eq-HYPHEN-via-then-t-eq-HYPHEN w ↦ sign_minus (turn_byte c.unit_to-t.ensures (λ e. omega arith)) w.if-t-eq-HYPHEN.true
+      | then-t-eq-HYPHEN-via-else-t-eq-HYPHEN+then-t-eq-PLUS w ↦ sign_plus (turn_byte c.unit_to-t.ensures (λ e. omega arith)) w.if-t-eq-PLUS.true
+    ]
 
 pub returns : goal.returns
-returns c = sign_none _ _ c.unit_to-t.ensures.is c.if-u-eq-HYPHEN.false c.if-u-eq-PLUS.false
+returns c = sign_none _ _ c.unit_to-t.ensures.is c.if-t-eq-HYPHEN.false c.if-t-eq-PLUS.false

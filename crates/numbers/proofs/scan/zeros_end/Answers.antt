@@ -1,26 +1,11 @@
 -- `numbers::scan::zeros_end` meets its contract.
-use lib.ListN.{length}
-use native.Mathlib.Omega.{arith}
-use Prim.Native.Nat.{◌-◌, ◌*◌}
-use mathlib.Core.Path.{◌≡◌, refl, ◌∙◌}
-use Rattle.numbers.specs.laws.Spans.{leading_end, leading_more, leading_stop}
-use Rattle.numbers.specs.Float.{no_leading}
-use Rattle.numbers.specs.Until.{until}
-use Rattle.numbers.specs.laws.Until.{turn_byte, turn_end}
-use borrow.Author.Rules.{rules}
+use Rattle.std.proofs.Common.{arith, ◌∙◌}
+use Rattle.numbers.specs.laws.Spans.{leading_more, leading_stop}
+use Rattle.numbers.specs.laws.Until.{turn_byte}
 use Rattle.numbers.proofs.scan.zeros_end.Goals as goal
 
-pub loop-t-init : goal.loop-t-init
-loop-t-init c = refl
-
-pub returns-then-u-eq-END : goal.returns-then-u-eq-END
-returns-then-u-eq-END c = c.loop-t.invariant ∙ leading_end (turn_end c.unit_to-t.ensures c.if-u-eq-END.true)
-
-pub loop-t-smaller : goal.loop-t-smaller
-loop-t-smaller c = omega arith
+pub returns-then-t-ne-ZERO : goal.returns-then-t-ne-ZERO
+returns-then-t-ne-ZERO c = c.loop-t.invariant ∙ leading_stop _ _ c.unit_to-t.ensures.is c.if-t-ne-ZERO.true
 
 pub loop-t-preserved : goal.loop-t-preserved
-loop-t-preserved c = c.loop-t.invariant ∙ leading_more (turn_byte c.unit_to-t.ensures c.if-u-eq-END.false) c.if-u-eq-ZERO.true
-
-pub returns-else-u-eq-ZERO : goal.returns-else-u-eq-ZERO
-returns-else-u-eq-ZERO c = c.loop-t.invariant ∙ leading_stop (turn_byte c.unit_to-t.ensures c.if-u-eq-END.false) c.if-u-eq-ZERO.false
+loop-t-preserved c = c.loop-t.invariant ∙ leading_more (turn_byte c.unit_to-t.ensures (λ e. omega arith)) c.if-t-ne-ZERO.false

@@ -2,14 +2,8 @@
 use Rattle.read_jcal.specs.laws.BadNames.{bad_names}
 use Rattle.read_jcal.proofs.bad_names.has_bad_parameter.Goals as goal
 
-pub is_object-object-requires : goal.is_object-object-requires
-is_object-object-requires c = search bad_names
+pub returns-then-is_object : goal.returns-then-is_object
+returns-then-is_object c = search bad_names
 
-pub names_bad-requires : goal.names_bad-requires
-names_bad-requires c = search bad_names
-
-pub returns-then-object : goal.returns-then-object
-returns-then-object c = search bad_names
-
-pub returns : goal.returns
-returns c = search bad_names
+pub returns-else-is_object : goal.returns-else-is_object
+returns-else-is_object c = search bad_names

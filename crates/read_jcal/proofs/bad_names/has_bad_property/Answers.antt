@@ -2,14 +2,8 @@
 use Rattle.read_jcal.specs.laws.BadNames.{bad_names}
 use Rattle.read_jcal.proofs.bad_names.has_bad_property.Goals as goal
 
-pub is_string-string-requires : goal.is_string-string-requires
-is_string-string-requires c = search bad_names
+pub returns-then-is_string : goal.returns-then-is_string
+returns-then-is_string c = search bad_names
 
-pub is_bad_property-requires : goal.is_bad_property-requires
-is_bad_property-requires c = search bad_names
-
-pub returns-then-string : goal.returns-then-string
-returns-then-string c = search bad_names
-
-pub returns : goal.returns
-returns c = search bad_names
+pub returns-else-is_string : goal.returns-else-is_string
+returns-else-is_string c = search bad_names

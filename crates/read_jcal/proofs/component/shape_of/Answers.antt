@@ -2,23 +2,11 @@
 use Rattle.read_jcal.specs.laws.Components.{shapes}
 use Rattle.read_jcal.proofs.component.shape_of.Goals as goal
 
-pub first_three-p-requires : goal.first_three-p-requires
-first_three-p-requires c = search shapes
+pub returns-then-not-is_string : goal.returns-then-not-is_string
+returns-then-not-is_string c = search shapes
 
-pub is_string-string-requires : goal.is_string-string-requires
-is_string-string-requires c = search shapes
-
-pub is_bad_name-bad-requires : goal.is_bad_name-bad-requires
-is_bad_name-bad-requires c = search shapes
-
-pub returns-then-bad : goal.returns-then-bad
-returns-then-bad c = search shapes
-
-pub named_shape-requires : goal.named_shape-requires
-named_shape-requires c = search shapes
-
-pub returns-then-string : goal.returns-then-string
-returns-then-string c = search shapes
+pub returns-then-is_bad_name : goal.returns-then-is_bad_name
+returns-then-is_bad_name c = search shapes
 
 pub returns : goal.returns
 returns c = search shapes

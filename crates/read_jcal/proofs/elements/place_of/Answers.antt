@@ -2,11 +2,8 @@
 use Rattle.octets.specs.laws.Pick.{branching}
 use Rattle.read_jcal.proofs.elements.place_of.Goals as goal
 
-pub is_there-there-requires : goal.is_there-there-requires
-is_there-there-requires c = search branching
+pub returns-then-is_there : goal.returns-then-is_there
+returns-then-is_there c = search branching
 
-pub returns-then-there : goal.returns-then-there
-returns-then-there c = search branching
-
-pub returns : goal.returns
-returns c = search branching
+pub returns-else-is_there : goal.returns-else-is_there
+returns-else-is_there c = search branching

@@ -10,8 +10,8 @@ decreases-component_verdict l = 2 * l.left
 abbrev pub decreases-components_verdict : goal.decreases-components_verdict
 decreases-components_verdict l = 2 * l.left + 1
 
-abbrev pub invariant-components_verdict-loop-h : goal.invariant-components_verdict-loop-h
-invariant-components_verdict-loop-h l = Among l.edition l.outer l.left l.method l.s l.from l.at
+abbrev pub invariant-components_verdict-loop-edition : goal.invariant-components_verdict-loop-edition
+invariant-components_verdict-loop-edition l = Among l.edition l.outer l.left l.method l.s l.from l.at
 
-abbrev pub decreases-components_verdict-loop-h : goal.decreases-components_verdict-loop-h
-decreases-components_verdict-loop-h l = length l.s - l.at
+abbrev pub decreases-components_verdict-loop-edition : goal.decreases-components_verdict-loop-edition
+decreases-components_verdict-loop-edition l = length l.s - l.at

@@ -1,6 +1,5 @@
 -- `read_jcal_parameters::apart::are_few` meets its contract.
 use Prim.Native.Nat.{◌-◌, ◌≤◌}
-use borrow.Author.Rules.{rules}
 use Rattle.read_jcal_parameters.proofs.apart.are_few.Given as goal
 
 abbrev pub invariant-loop-k : goal.invariant-loop-k

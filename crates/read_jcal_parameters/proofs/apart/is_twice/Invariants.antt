@@ -1,7 +1,7 @@
 -- `read_jcal_parameters::apart::is_twice` meets its contract.
 use Prim.Native.Nat.{◌-◌}
 use lib.ListN.{length}
-use Rattle.read_jcal_parameters.specs.laws.Apart.{Behind, twices}
+use Rattle.read_jcal_parameters.specs.laws.Apart.{Behind}
 use Rattle.read_jcal_parameters.proofs.apart.is_twice.Given as goal
 
 abbrev pub invariant-loop-m : goal.invariant-loop-m

@@ -3,8 +3,8 @@ use Rattle.read_jcal_parameters.specs.laws.Encoded.{encoded_here, encoded_other}
 use borrow.Author.Rules.{rules}
 use Rattle.read_jcal_parameters.proofs.base64.is_encoded.Goals as goal
 
-pub returns-then-q-eq-ENCODING : goal.returns-then-q-eq-ENCODING
-returns-then-q-eq-ENCODING c = search (encoded_here, rules)
+pub returns-then-parameter_number-eq-ENCODING : goal.returns-then-parameter_number-eq-ENCODING
+returns-then-parameter_number-eq-ENCODING c = search (encoded_here, encoded_other, rules)
 
-pub returns : goal.returns
-returns c = search (encoded_other, rules)
+pub returns-else-parameter_number-eq-ENCODING : goal.returns-else-parameter_number-eq-ENCODING
+returns-else-parameter_number-eq-ENCODING c = search (encoded_here, encoded_other, rules)

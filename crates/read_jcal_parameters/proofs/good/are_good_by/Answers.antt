@@ -3,11 +3,8 @@ use Rattle.read_jcal_parameters.specs.laws.Sound.{good_again, good_unsound, good
 use borrow.Author.Rules.{rules}
 use Rattle.read_jcal_parameters.proofs.good.are_good_by.Goals as goal
 
-pub returns-then-sound : goal.returns-then-sound
-returns-then-sound c = search (good_encoded, rules)
+pub returns-then-are_sound : goal.returns-then-are_sound
+returns-then-are_sound c = search (good_encoded, good_unsound, good_again, rules)
 
-pub returns-then-apart : goal.returns-then-apart
-returns-then-apart c = search (good_unsound, rules)
-
-pub returns : goal.returns
-returns c = search (good_again, rules)
+pub returns-else-are_sound : goal.returns-else-are_sound
+returns-else-are_sound c = search (good_encoded, good_unsound, good_again, rules)

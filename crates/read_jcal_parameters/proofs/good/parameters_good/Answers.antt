@@ -1,6 +1,5 @@
 -- `read_jcal_parameters::good::parameters_good` meets its contract.
 use Rattle.read_jcal_parameters.specs.laws.Sound.{good_members}
-use borrow.Author.Rules.{rules}
 use Rattle.read_jcal_parameters.proofs.good.parameters_good.Goals as goal
 
 pub returns : goal.returns

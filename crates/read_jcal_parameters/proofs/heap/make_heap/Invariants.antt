@@ -1,7 +1,6 @@
 -- `read_jcal_parameters::heap::make_heap` meets its contract.
 use mathlib.Core.Path.{◌≡◌}
 use lib.ListN.{length}
-use borrow.Author.Rules.{rules}
 use Rattle.read_jcal_parameters.proofs.heap.make_heap.Given as goal
 
 abbrev pub invariant-loop-i : goal.invariant-loop-i

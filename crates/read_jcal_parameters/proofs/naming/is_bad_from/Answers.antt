@@ -3,14 +3,8 @@ use Rattle.read_jcal_parameters.specs.laws.Names.{bad_none, bad_large, bad_carri
 use borrow.Author.Rules.{rules}
 use Rattle.read_jcal_parameters.proofs.naming.is_bad_from.Goals as goal
 
-pub returns-then-n-eq-END : goal.returns-then-n-eq-END
-returns-then-n-eq-END c = search (bad_none, rules)
+pub returns-then-not-is_small_name : goal.returns-then-not-is_small_name
+returns-then-not-is_small_name c = search (bad_none, bad_carried, bad_start, bad_large, rules)
 
-pub returns-then-carried : goal.returns-then-carried
-returns-then-carried c = search (bad_carried, rules)
-
-pub returns-then-small : goal.returns-then-small
-returns-then-small c = search (bad_start, rules)
-
-pub returns : goal.returns
-returns c = search (bad_large, rules)
+pub returns-else-not-is_small_name : goal.returns-else-not-is_small_name
+returns-else-not-is_small_name c = search (bad_none, bad_carried, bad_start, bad_large, rules)

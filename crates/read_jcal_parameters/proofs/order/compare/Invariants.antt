@@ -1,11 +1,9 @@
 -- `read_jcal_parameters::order::compare` meets its contract.
-use mathlib.Core.Path.{◌≡◌, refl, sym, ◌∙◌}
+use mathlib.Core.Path.{◌≡◌}
 use Prim.Native.Nat.{◌*◌, ◌-◌}
 use lib.ListN.{length}
 use Rattle.source.specs.Source.{rest}
 use Rattle.distinct.specs.Order.{order}
-use Rattle.read_jcal_parameters.specs.laws.Order.{order_less, order_more, order_end, order_on, order_nearer}
-use borrow.Author.Rules.{rules}
 use Rattle.read_jcal_parameters.proofs.order.compare.Given as goal
 
 abbrev pub invariant-loop-x : goal.invariant-loop-x

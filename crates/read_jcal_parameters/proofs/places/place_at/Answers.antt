@@ -4,7 +4,6 @@ use mathlib.Core.List.{List, [], ◌∷◌}
 use Prim.Native.Nat.{ℕ, zero, suc, ◌≤◌}
 use lib.ListN.{length, get_or}
 use native.Mathlib.Omega.{arith}
-use borrow.Author.Rules.{rules}
 use Rattle.read_jcal_parameters.proofs.places.place_at.Goals as goal
 
 past : (l : List ℕ) (i : ℕ) → length l ≤ i → 0 ≡ get_or l i 0

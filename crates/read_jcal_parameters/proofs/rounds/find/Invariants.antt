@@ -1,6 +1,5 @@
 -- `read_jcal_parameters::rounds::find` meets its contract.
 use Prim.Native.Nat.{◌-◌, ◌≤◌}
-use borrow.Author.Rules.{rules}
 use Rattle.read_jcal_parameters.proofs.rounds.find.Given as goal
 
 abbrev pub invariant-loop-low : goal.invariant-loop-low

@@ -1,10 +1,6 @@
 -- `read_jcal_parameters::rounds::rise` meets its contract.
-use Prim.Native.Nat.{◌+◌, ◌-◌, ◌^◌, ◌<◌}
 use native.Mathlib.Omega.{arith}
-use Rattle.distinct.specs.Rising.{Rising}
 use Rattle.distinct.specs.laws.Rising.{rising_start, rising_more, rising_fewer}
-use Rattle.read_json.specs.TreeAt.{string_at}
-use borrow.Author.Rules.{rules}
 use Rattle.read_jcal_parameters.proofs.rounds.rise.Goals as goal
 
 pub loop-i-init : goal.loop-i-init

@@ -1,7 +1,5 @@
 -- `read_jcal_parameters::several::are_all_good` meets its contract.
-use Prim.Native.Nat.{◌-◌}
-use lib.ListN.{length}
-use Rattle.read_jcal_parameters.specs.laws.Values.{Goods, goods}
+use Rattle.read_jcal_parameters.specs.laws.Values.{goods}
 use Rattle.read_jcal_parameters.proofs.several.are_all_good.Goals as goal
 
 pub loop-kind-init : goal.loop-kind-init

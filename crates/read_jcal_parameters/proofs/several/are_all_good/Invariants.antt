@@ -1,7 +1,7 @@
 -- `read_jcal_parameters::several::are_all_good` meets its contract.
 use Prim.Native.Nat.{◌-◌}
 use lib.ListN.{length}
-use Rattle.read_jcal_parameters.specs.laws.Values.{Goods, goods}
+use Rattle.read_jcal_parameters.specs.laws.Values.{Goods}
 use Rattle.read_jcal_parameters.proofs.several.are_all_good.Given as goal
 
 abbrev pub invariant-loop-kind : goal.invariant-loop-kind

@@ -1,7 +1,5 @@
 -- `read_jcal_parameters::several::has_byte` meets its contract.
-use Prim.Native.Nat.{◌*◌, ◌-◌}
-use lib.ListN.{length}
-use Rattle.read_jcal_parameters.specs.laws.Values.{Holding, holding}
+use Rattle.read_jcal_parameters.specs.laws.Values.{holding}
 use Rattle.read_jcal_parameters.proofs.several.has_byte.Goals as goal
 
 pub loop-n-init : goal.loop-n-init

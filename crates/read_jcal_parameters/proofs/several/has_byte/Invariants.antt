@@ -1,7 +1,7 @@
 -- `read_jcal_parameters::several::has_byte` meets its contract.
 use Prim.Native.Nat.{◌*◌, ◌-◌}
 use lib.ListN.{length}
-use Rattle.read_jcal_parameters.specs.laws.Values.{Holding, holding}
+use Rattle.read_jcal_parameters.specs.laws.Values.{Holding}
 use Rattle.read_jcal_parameters.proofs.several.has_byte.Given as goal
 
 abbrev pub invariant-loop-n : goal.invariant-loop-n

@@ -1,13 +1,7 @@
 -- `read_jcal_parameters::written::put_list` meets its contract.
 use Rattle.sink.specs.laws.Sink.{writing}
-use mathlib.Core.Bool.{false}
-use Prim.Native.Nat.{◌-◌}
-use lib.ListN.{length}
-use Rattle.read_jcal_parameters.specs.Shapes.{list_at}
 use Rattle.read_jcal_parameters.specs.laws.Shapes.{string_inside, string_less}
-use Rattle.read_jcal_parameters.specs.Values.{row_at}
-use Rattle.read_jcal_parameters.specs.Written.{list_shown}
-use Rattle.read_jcal_parameters.specs.laws.Written.{Emits, emits_start, list_next, list_over}
+use Rattle.read_jcal_parameters.specs.laws.Written.{emits_start, list_next, list_over}
 use Rattle.read_jcal_parameters.proofs.written.put_list.Goals as goal
 
 pub loop-c-init : goal.loop-c-init

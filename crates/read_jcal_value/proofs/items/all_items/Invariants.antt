@@ -2,7 +2,7 @@
 use Prim.Native.Nat.{◌-◌}
 use lib.ListN.{length}
 use Rattle.read_jcal_value.specs.Items.{item_in}
-use Rattle.read_jcal_value.specs.laws.Elements.{Each, eaching}
+use Rattle.read_jcal_value.specs.laws.Elements.{Each}
 use Rattle.read_jcal_value.proofs.items.all_items.Given as goal
 
 abbrev pub invariant-loop-h : goal.invariant-loop-h

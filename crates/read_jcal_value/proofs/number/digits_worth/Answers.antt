@@ -1,7 +1,5 @@
 -- `read_jcal_value::digits_worth` meets its contract.
-use Prim.Native.Nat.{◌-◌}
-use lib.ListN.{length}
-use Rattle.read_jcal_value.specs.laws.Digits.{Walking, walking}
+use Rattle.read_jcal_value.specs.laws.Digits.{walking}
 use Rattle.read_jcal_value.proofs.number.digits_worth.Goals as goal
 
 pub loop-i-init : goal.loop-i-init

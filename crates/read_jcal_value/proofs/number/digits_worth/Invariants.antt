@@ -1,7 +1,7 @@
 -- `read_jcal_value::digits_worth` meets its contract.
 use Prim.Native.Nat.{◌-◌}
 use lib.ListN.{length}
-use Rattle.read_jcal_value.specs.laws.Digits.{Walking, walking}
+use Rattle.read_jcal_value.specs.laws.Digits.{Walking}
 use Rattle.read_jcal_value.proofs.number.digits_worth.Given as goal
 
 abbrev pub invariant-loop-i : goal.invariant-loop-i

@@ -1,8 +1,5 @@
 -- `read_jcal_value::mark_at` meets its contract.
-use Prim.Native.Nat.{◌-◌}
-use lib.ListN.{length}
-use Rattle.read_jcal_value.specs.Number.{mark_of}
-use Rattle.read_jcal_value.specs.laws.Number.{Marking, marking}
+use Rattle.read_jcal_value.specs.laws.Number.{marking}
 use Rattle.read_jcal_value.proofs.number.mark_at.Goals as goal
 
 pub loop-i-init : goal.loop-i-init

@@ -2,7 +2,7 @@
 use Prim.Native.Nat.{◌-◌}
 use lib.ListN.{length}
 use Rattle.read_jcal_value.specs.Number.{mark_of}
-use Rattle.read_jcal_value.specs.laws.Number.{Marking, marking}
+use Rattle.read_jcal_value.specs.laws.Number.{Marking}
 use Rattle.read_jcal_value.proofs.number.mark_at.Given as goal
 
 abbrev pub invariant-loop-i : goal.invariant-loop-i

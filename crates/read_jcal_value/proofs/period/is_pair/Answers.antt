@@ -2,20 +2,11 @@
 use Rattle.octets.specs.laws.Pick.{branching}
 use Rattle.read_jcal_value.proofs.period.is_pair.Goals as goal
 
-pub is_string_of-start-requires : goal.is_string_of-start-requires
-is_string_of-start-requires c = search branching
+pub returns-then-is_string_of-2 : goal.returns-then-is_string_of-2
+returns-then-is_string_of-2 c = search branching
 
-pub is_string_of-duration-requires : goal.is_string_of-duration-requires
-is_string_of-duration-requires c = search branching
+pub returns-else-is_string_of-2 : goal.returns-else-is_string_of-2
+returns-else-is_string_of-2 c = search branching
 
-pub returns-then-duration : goal.returns-then-duration
-returns-then-duration c = search branching
-
-pub is_string_of-requires : goal.is_string_of-requires
-is_string_of-requires c = search branching
-
-pub returns-then-start : goal.returns-then-start
-returns-then-start c = search branching
-
-pub returns : goal.returns
-returns c = search branching
+pub returns-else-is_string_of : goal.returns-else-is_string_of
+returns-else-is_string_of c = search branching

@@ -2,14 +2,8 @@
 use Rattle.read_jcal_value.specs.laws.Elements.{kinds}
 use Rattle.read_jcal_value.proofs.typed.binary_read.Goals as goal
 
-pub kind_number-k-requires : goal.kind_number-k-requires
-kind_number-k-requires c = search kinds
+pub returns-then-is_string : goal.returns-then-is_string
+returns-then-is_string c = search kinds
 
-pub is_binary-requires : goal.is_binary-requires
-is_binary-requires c = search kinds
-
-pub returns-then-k-eq-STRING : goal.returns-then-k-eq-STRING
-returns-then-k-eq-STRING c = search kinds
-
-pub returns : goal.returns
-returns c = search kinds
+pub returns-else-is_string : goal.returns-else-is_string
+returns-else-is_string c = search kinds

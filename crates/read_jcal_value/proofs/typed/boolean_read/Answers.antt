@@ -3,14 +3,8 @@ use Rattle.read_jcal_value.specs.laws.Elements.{kinds}
 use Rattle.read_jcal_value.specs.laws.Typed.{no_boolean}
 use Rattle.read_jcal_value.proofs.typed.boolean_read.Goals as goal
 
-pub kind_number-k-requires : goal.kind_number-k-requires
-kind_number-k-requires c = search kinds
+pub returns-then-is_literal : goal.returns-then-is_literal
+returns-then-is_literal c = search kinds
 
-pub is_word_of-requires : goal.is_word_of-requires
-is_word_of-requires c = search kinds
-
-pub returns-then-k-eq-LITERAL : goal.returns-then-k-eq-LITERAL
-returns-then-k-eq-LITERAL c = search kinds
-
-pub returns : goal.returns
-returns c = search (no_boolean, kinds)
+pub returns-else-is_literal : goal.returns-else-is_literal
+returns-else-is_literal c = search (no_boolean, kinds)

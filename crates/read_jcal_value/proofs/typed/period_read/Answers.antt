@@ -2,14 +2,8 @@
 use Rattle.read_jcal_value.specs.laws.Elements.{kinds}
 use Rattle.read_jcal_value.proofs.typed.period_read.Goals as goal
 
-pub kind_number-k-requires : goal.kind_number-k-requires
-kind_number-k-requires c = search kinds
+pub returns-then-is_array : goal.returns-then-is_array
+returns-then-is_array c = search kinds
 
-pub is_period-requires : goal.is_period-requires
-is_period-requires c = search kinds
-
-pub returns-then-k-eq-ARRAY : goal.returns-then-k-eq-ARRAY
-returns-then-k-eq-ARRAY c = search kinds
-
-pub returns : goal.returns
-returns c = search kinds
+pub returns-else-is_array : goal.returns-else-is_array
+returns-else-is_array c = search kinds

@@ -2,7 +2,7 @@
 use Prim.Native.Nat.{◌-◌}
 use lib.ListN.{length}
 use Rattle.read_jcal_value.specs.Values.{one_at}
-use Rattle.read_jcal_value.specs.laws.Elements.{Each, eaching}
+use Rattle.read_jcal_value.specs.laws.Elements.{Each}
 use Rattle.read_jcal_value.proofs.valued.all_read.Given as goal
 
 abbrev pub invariant-loop-context : goal.invariant-loop-context

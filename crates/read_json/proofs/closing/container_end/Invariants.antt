@@ -1,7 +1,7 @@
 -- `read_json::container_end` meets its contract.
 use Prim.Native.Nat.{◌-◌}
 use lib.ListN.{length}
-use Rattle.read_json.specs.laws.Closing.{Closing, closing}
+use Rattle.read_json.specs.laws.Closing.{Closing}
 use Rattle.read_json.proofs.closing.container_end.Given as goal
 
 abbrev pub invariant-loop-depth : goal.invariant-loop-depth

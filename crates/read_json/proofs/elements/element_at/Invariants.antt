@@ -1,7 +1,7 @@
 -- `read_json::element_at` meets its contract.
 use Prim.Native.Nat.{◌-◌}
 use lib.ListN.{length}
-use Rattle.read_json.specs.laws.Heads.{Seeking, seeking}
+use Rattle.read_json.specs.laws.Heads.{Seeking}
 use Rattle.read_json.proofs.elements.element_at.Given as goal
 
 abbrev pub invariant-loop-c : goal.invariant-loop-c

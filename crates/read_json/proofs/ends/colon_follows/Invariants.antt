@@ -1,7 +1,7 @@
 -- `read_json::colon_follows` meets its contract.
 use Prim.Native.Nat.{◌-◌}
 use lib.ListN.{length}
-use Rattle.read_json.specs.laws.Ends.{Spaces, spacing}
+use Rattle.read_json.specs.laws.Ends.{Spaces}
 use Rattle.read_json.proofs.ends.colon_follows.Given as goal
 
 abbrev pub invariant-loop-i : goal.invariant-loop-i

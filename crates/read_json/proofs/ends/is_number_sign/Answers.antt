@@ -1,8 +1,13 @@
 -- `read_json::is_number_sign` meets its contract.
-use mathlib.Core.Path.{refl}
 use Rattle.octets.specs.Pick.{◌or◌}
+use Rattle.std.proofs.lemmas.Grind.{common_steps}
+use Rattle.std.proofs.Common.{arith}
 use Rattle.read_json.proofs.ends.is_number_sign.Goals as goal
 
-pub returns : goal.returns
+pub returns-then-u-eq-PLUS : goal.returns-then-u-eq-PLUS
 unfolding ◌or◌
-returns c = refl
+returns-then-u-eq-PLUS c = grind (arith, common_steps)
+
+pub returns-else-u-eq-PLUS : goal.returns-else-u-eq-PLUS
+unfolding ◌or◌
+returns-else-u-eq-PLUS c = grind (arith, common_steps)

@@ -1,15 +1,13 @@
 -- `read_json::is_separator` meets its contract.
-use Rattle.octets.specs.laws.Pick.{branching}
+use Rattle.octets.specs.Pick.{◌or◌}
+use Rattle.std.proofs.lemmas.Grind.{common_steps}
+use Rattle.std.proofs.Common.{arith}
 use Rattle.read_json.proofs.ends.is_separator.Goals as goal
 
-pub is_space-requires : goal.is_space-requires
-is_space-requires c = search branching
-
-pub returns-then-is_space : goal.returns-then-is_space
-returns-then-is_space c = search branching
-
 pub returns-then-u-eq-COLON : goal.returns-then-u-eq-COLON
-returns-then-u-eq-COLON c = search branching
+unfolding ◌or◌
+returns-then-u-eq-COLON c = grind (arith, common_steps)
 
-pub returns : goal.returns
-returns c = search branching
+pub returns-else-u-eq-COLON : goal.returns-else-u-eq-COLON
+unfolding ◌or◌
+returns-else-u-eq-COLON c = grind (arith, common_steps)

@@ -1,7 +1,7 @@
 -- `read_json::string_end` meets its contract.
 use Prim.Native.Nat.{◌-◌}
 use lib.ListN.{length}
-use Rattle.read_json.specs.laws.Ends.{Ending, ending}
+use Rattle.read_json.specs.laws.Ends.{Ending}
 use Rattle.read_json.proofs.ends.string_end.Given as goal
 
 abbrev pub invariant-loop-i : goal.invariant-loop-i

@@ -1,7 +1,7 @@
 -- `read_json::word_end` meets its contract.
 use Prim.Native.Nat.{◌-◌}
 use lib.ListN.{length}
-use Rattle.read_json.specs.laws.Ends.{Word, word_past, word_stop, wording}
+use Rattle.read_json.specs.laws.Ends.{Word}
 use Rattle.read_json.proofs.ends.word_end.Given as goal
 
 abbrev pub invariant-loop-i : goal.invariant-loop-i

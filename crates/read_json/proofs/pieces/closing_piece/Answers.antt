@@ -1,6 +1,5 @@
 -- `read_json::closing_piece` meets its contract.
 use native.Mathlib.Omega.{arith}
-use borrow.Author.Rules.{rules}
 use Rattle.read_json.specs.laws.Pieces.{close_array, close_object, begins_word}
 use Rattle.read_json.proofs.pieces.closing_piece.Goals as goal
 

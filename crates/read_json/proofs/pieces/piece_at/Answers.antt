@@ -1,7 +1,6 @@
 -- `read_json::piece_at` meets its contract.
 use mathlib.Core.Path.{sym, ap, ◌∙◌}
 use native.Mathlib.Omega.{arith}
-use borrow.Author.Rules.{rules}
 use Rattle.json_text.specs.Tree.{is_separator}
 use Rattle.read_json.specs.laws.Pieces.{array_piece, object_piece}
 use Rattle.read_json.proofs.pieces.piece_at.Goals as goal

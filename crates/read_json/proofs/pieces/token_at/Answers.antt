@@ -1,5 +1,4 @@
 -- `read_json::token_at` meets its contract.
-use borrow.Author.Rules.{rules}
 use Rattle.read_json.specs.laws.Pieces.{piece_from, no_piece}
 use Rattle.read_json.proofs.pieces.token_at.Goals as goal
 

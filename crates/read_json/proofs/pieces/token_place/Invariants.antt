@@ -1,7 +1,7 @@
 -- `read_json::token_place` meets its contract.
 use Prim.Native.Nat.{◌-◌}
 use lib.ListN.{length}
-use Rattle.read_json.specs.laws.Pieces.{Passing, passing}
+use Rattle.read_json.specs.laws.Pieces.{Passing}
 use Rattle.read_json.proofs.pieces.token_place.Given as goal
 
 abbrev pub invariant-loop-i : goal.invariant-loop-i

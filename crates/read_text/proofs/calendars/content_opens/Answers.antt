@@ -1,5 +1,4 @@
 -- `read_text::calendars::content_opens` meets its contract.
-use borrow.Author.Rules.{rules}
 use Rattle.read_text.specs.laws.Outer.{outer_begin, outer_stray, outer_uncarried}
 use Rattle.read_text.specs.laws.Kinds.{name_count}
 use Rattle.read_text.proofs.calendars.content_opens.Goals as goal
@@ -8,10 +7,10 @@ pub slice_bounds-is_word_any_case-end : goal.slice_bounds-is_word_any_case-end
 slice_bounds-is_word_any_case-end c = name_count c.requires.2 c.requires.1 c.requires.0
 
 pub returns-then-begin : goal.returns-then-begin
-returns-then-begin c = outer_begin _ c.requires.2 c.requires.1 c.names_carried-good.ensures c.if-good.true c.is_word_any_case-begin.ensures c.begin_opens.result c.if-begin.true c.begin_opens.ensures
-
-pub returns-then-good : goal.returns-then-good
-returns-then-good c = outer_stray _ c.requires.2 c.requires.1 c.names_carried-good.ensures c.if-good.true c.is_word_any_case-begin.ensures c.if-begin.false
+returns-then-begin c = outer_begin _ c.requires.2 c.requires.1 c.names_carried.ensures c.if-not-names_carried.false c.is_word_any_case-begin.ensures c.begin_opens.result c.if-begin.true c.begin_opens.ensures
 
 pub returns : goal.returns
-returns c = outer_uncarried _ c.requires.2 c.requires.1 c.names_carried-good.ensures c.if-good.false
+returns c = rw c.at-2.ensures (outer_stray _ c.requires.2 c.requires.1 c.names_carried.ensures c.if-not-names_carried.false c.is_word_any_case-begin.ensures c.if-begin.false)
+
+pub returns-then-not-names_carried : goal.returns-then-not-names_carried
+returns-then-not-names_carried c = rw c.at.ensures (outer_uncarried _ c.requires.2 c.requires.1 c.names_carried.ensures c.if-not-names_carried.true)

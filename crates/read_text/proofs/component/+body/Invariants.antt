@@ -1,14 +1,9 @@
 -- `read_text::component::body`, which calls itself, meets its contract.
-use mathlib.Core.Path.{refl, sym, subst}
-use Prim.Native.Nat.{ℕ, ◌-◌, ◌<◌}
-use native.Mathlib.Omega.{arith}
+use Prim.Native.Nat.{◌-◌}
 use lib.ListN.{length}
-use borrow.Author.Rules.{rules}
-use lib.Seq.{length-take-le}
 use Rattle.octets.specs.Class.{upper}
 use Rattle.source.specs.Source.{rest}
-use Rattle.read_text.specs.Turns.{Body}
-use Rattle.read_text.proofs.Walk.{Reached, reached_none, reached_held, reached_inner, starts_number, starts_left, body_inner, body_closed, body_short, body_faulty, body_open}
+use Rattle.read_text.proofs.Walk.{Reached}
 use Rattle.read_text.proofs.component.+body.Given as goal
 
 abbrev pub decreases-body : goal.decreases-body

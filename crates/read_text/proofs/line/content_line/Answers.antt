@@ -1,6 +1,5 @@
 -- `read_text::line::content_line` meets its contract.
 use mathlib.Core.List.{[]}
-use borrow.Author.Rules.{rules}
 use Rattle.read_text.specs.laws.Kinds.{name_count, kind_begin, kind_end, kind_property, kind_uncarried}
 use Rattle.read_text.proofs.line.content_line.Goals as goal
 
@@ -8,16 +7,16 @@ pub slice_bounds-is_word_any_case-end : goal.slice_bounds-is_word_any_case-end
 slice_bounds-is_word_any_case-end c = name_count c.requires.3 c.requires.2 c.requires.1
 
 pub returns-then-begin : goal.returns-then-begin
-returns-then-begin c = kind_begin _ c.requires.3 c.requires.2 _ _ c.args.inner c.names_carried-good.ensures c.begin_line.result c.if-good.true c.is_word_any_case-begin.ensures c.if-begin.true (c.begin_line.ensures _ [] c.requires.0)
+returns-then-begin c = kind_begin _ c.requires.3 c.requires.2 _ _ c.args.inner c.names_carried.ensures c.begin_line.result c.if-not-names_carried.false c.is_word_any_case-begin.ensures c.if-begin.true (c.begin_line.ensures _ [] c.requires.0)
 
 pub returns-then-end : goal.returns-then-end
-returns-then-end c = kind_end _ c.requires.3 c.requires.2 _ _ c.args.inner c.names_carried-good.ensures c.end_line.result c.if-good.true c.is_word_any_case-begin.ensures c.if-begin.false c.is_word_any_case-end.ensures c.if-end.true (c.end_line.ensures _ [])
+returns-then-end c = kind_end _ c.requires.3 c.requires.2 _ _ c.args.inner c.names_carried.ensures c.end_line.result c.if-not-names_carried.false c.is_word_any_case-begin.ensures c.if-begin.false c.is_word_any_case-end.ensures c.if-end.true (c.end_line.ensures _ [])
 
 pub property_line-requires : goal.property_line-requires
 property_line-requires c = (c.requires.1, c.requires.2, c.requires.3)
 
-pub returns-then-good : goal.returns-then-good
-returns-then-good c = kind_property _ c.requires.3 c.requires.2 _ _ c.args.inner c.names_carried-good.ensures c.property_line.result c.if-good.true c.is_word_any_case-begin.ensures c.if-begin.false c.is_word_any_case-end.ensures c.if-end.false (c.property_line.ensures _ _ c.requires.0)
-
 pub returns : goal.returns
-returns c = kind_uncarried _ c.requires.3 c.requires.2 _ _ c.args.inner c.names_carried-good.ensures c.if-good.false
+returns c = kind_property _ c.requires.3 c.requires.2 _ _ c.args.inner c.names_carried.ensures c.property_line.result c.if-not-names_carried.false c.is_word_any_case-begin.ensures c.if-begin.false c.is_word_any_case-end.ensures c.if-end.false (c.property_line.ensures _ _ c.requires.0)
+
+pub returns-then-not-names_carried : goal.returns-then-not-names_carried
+returns-then-not-names_carried c = rw c.at.ensures (kind_uncarried _ c.requires.3 c.requires.2 _ _ c.args.inner c.names_carried.ensures c.if-not-names_carried.true)

@@ -1,5 +1,4 @@
 -- `read_text::line::may_hold` meets its contract.
-use borrow.Author.Rules.{rules}
 use Rattle.read_text.specs.laws.Holding.{hold_known, hold_not, hold_other}
 use Rattle.read_text.proofs.line.may_hold.Goals as goal
 

@@ -1,13 +1,14 @@
 -- `read_text::line::no_params` meets its contract.
 use borrow.Author.Rules.{rules}
 use Rattle.read_text.specs.laws.Kinds.{params_some, params_bad, params_none}
+use Rattle.std.proofs.Common.{ap, ◌∙◌, ◌≡◌, Ok, None, rules}
 use Rattle.read_text.proofs.line.no_params.Goals as goal
 
-pub returns-then-p-2 : goal.returns-then-p-2
-returns-then-p-2 c = params_some c.next_param-p.ensures c.if-p.true c.if-p-2.true
+pub returns-in_default : goal.returns-in_default
+returns-in_default c = let e : c.in_default.field-0 ≡ None = search rules in params_none c.next_param.ensures (c.in_default.is ∙ ap Ok e)
 
-pub returns-then-p : goal.returns-then-p
-returns-then-p c = params_bad c.next_param-p.ensures c.if-p.true c.if-p-2.false
+pub returns-in_default-2 : goal.returns-in_default-2
+returns-in_default-2 c = params_bad c.next_param.ensures c.in_default.is
 
 pub returns : goal.returns
-returns c = params_none c.next_param-p.ensures c.if-p.false
+returns c = params_some c.next_param.ensures (c.in-Ok-Some.is ∙ ap Ok c.in-Ok-Some.field-0-is)

@@ -1,5 +1,4 @@
 -- `read_text::line::property_line` meets its contract.
-use borrow.Author.Rules.{rules}
 use Rattle.read_text.specs.laws.Kinds.{name_count, name-row}
 use Rattle.read_text.proofs.line.property_line.Goals as goal
 

@@ -1,24 +1,24 @@
 -- `read_text::line::row_line` meets its contract.
 use mathlib.Core.Path.{refl}
-use borrow.Author.Rules.{rules}
 use Rattle.octets.specs.Class.{upper}
 use Rattle.read_text_line.specs.Decoded.{decoded_line}
 use Rattle.read_text_line.specs.Line.{line_from}
 use Rattle.read_text_property.specs.laws.Faults.{fault_named}
 use Rattle.read_text.specs.laws.Holding.{property_parameter, property_encoding, property_value, property_held, property_not}
+use Rattle.std.proofs.Common.{ap, ◌∙◌, Some}
 use Rattle.read_text.proofs.line.row_line.Goals as goal
 
-pub returns-in-Parameter : goal.returns-in-Parameter
-returns-in-Parameter c = λ g n w o e. property_parameter _ g c.args.mode c.args.s.now c.args.l w n c.args.inner e (c.may_hold-may.ensures n (upper w) o e) c.if-may.true (fault_named n (decoded_line c.args.edition (line_from w c.args.mode c.args.s.now c.args.l)) c.property_fault-f.ensures o e refl refl) c.in-Parameter.is c.parameter_cursor-c.ensures
+pub returns-in-Some-Parameter : goal.returns-in-Some-Parameter
+returns-in-Some-Parameter c = λ g n w o e. rw c.at-in-Some-Parameter.ensures (property_parameter _ g c.args.mode c.args.s.now c.args.l w n c.args.inner e (c.may_hold.ensures n (upper w) o e) c.if-not-may_hold.false (fault_named n (decoded_line c.args.edition (line_from w c.args.mode c.args.s.now c.args.l)) c.property_fault.ensures o e refl refl) (c.in-Some-Parameter.is ∙ ap Some c.in-Some-Parameter.field-0-is) (rw c.in-Some-Parameter.i-is at c.parameter_cursor-c.ensures))
 
-pub returns-in-Encoding : goal.returns-in-Encoding
-returns-in-Encoding c = λ g n w o e. property_encoding _ g c.args.mode c.args.s.now c.args.l w n c.args.inner e (c.may_hold-may.ensures n (upper w) o e) c.if-may.true (fault_named n (decoded_line c.args.edition (line_from w c.args.mode c.args.s.now c.args.l)) c.property_fault-f.ensures o e refl refl) c.in-Encoding.is
+pub returns-in-Some-Encoding : goal.returns-in-Some-Encoding
+returns-in-Some-Encoding c = λ g n w o e. rw c.at-in-Some-Encoding.ensures (property_encoding _ g c.args.mode c.args.s.now c.args.l w n c.args.inner e (c.may_hold.ensures n (upper w) o e) c.if-not-may_hold.false (fault_named n (decoded_line c.args.edition (line_from w c.args.mode c.args.s.now c.args.l)) c.property_fault.ensures o e refl refl) (c.in-Some-Encoding.is ∙ ap Some c.in-Some-Encoding.field-0-is))
 
-pub returns-in-Value : goal.returns-in-Value
-returns-in-Value c = λ g n w o e. property_value _ g c.args.mode c.args.s.now c.args.l w n c.args.inner e (c.may_hold-may.ensures n (upper w) o e) c.if-may.true (fault_named n (decoded_line c.args.edition (line_from w c.args.mode c.args.s.now c.args.l)) c.property_fault-f.ensures o e refl refl) c.in-Value.is
+pub returns-in-Some-Value : goal.returns-in-Some-Value
+returns-in-Some-Value c = λ g n w o e. rw c.at-in-Some-Value.ensures (property_value _ g c.args.mode c.args.s.now c.args.l w n c.args.inner e (c.may_hold.ensures n (upper w) o e) c.if-not-may_hold.false (fault_named n (decoded_line c.args.edition (line_from w c.args.mode c.args.s.now c.args.l)) c.property_fault.ensures o e refl refl) (c.in-Some-Value.is ∙ ap Some c.in-Some-Value.field-0-is))
 
 pub returns-in-None : goal.returns-in-None
-returns-in-None c = λ g n w o e. property_held _ g c.args.mode c.args.s.now c.args.l w n c.args.inner e (c.may_hold-may.ensures n (upper w) o e) c.if-may.true (fault_named n (decoded_line c.args.edition (line_from w c.args.mode c.args.s.now c.args.l)) c.property_fault-f.ensures o e refl refl) c.in-None.is c.action_of-a.ensures
+returns-in-None c = λ g n w o e. property_held _ g c.args.mode c.args.s.now c.args.l w n c.args.inner e (c.may_hold.ensures n (upper w) o e) c.if-not-may_hold.false (fault_named n (decoded_line c.args.edition (line_from w c.args.mode c.args.s.now c.args.l)) c.property_fault.ensures o e refl refl) c.in-None.is c.action_of-a.ensures
 
-pub returns : goal.returns
-returns c = λ g n w o e. property_not _ g c.args.mode c.args.s.now c.args.l w n c.args.inner e (c.may_hold-may.ensures n (upper w) o e) c.if-may.false
+pub returns-then-not-may_hold : goal.returns-then-not-may_hold
+returns-then-not-may_hold c = λ g n w o e. rw c.at.ensures (property_not _ g c.args.mode c.args.s.now c.args.l w n c.args.inner e (c.may_hold.ensures n (upper w) o e) c.if-not-may_hold.true)

@@ -2,8 +2,7 @@
 use Prim.Native.Nat.{◌<◌}
 use lib.ListN.{length}
 use Rattle.read_text_line.specs.Cursor.{params_at}
-use Rattle.read_text.specs.laws.Places.{Passing, passing_start, passing_more, passing_end}
-use borrow.Author.Rules.{rules}
+use Rattle.read_text.specs.laws.Places.{Passing}
 use Rattle.read_text.proofs.places.parameter_cursor.Given as goal
 
 abbrev pub invariant-loop-left : goal.invariant-loop-left

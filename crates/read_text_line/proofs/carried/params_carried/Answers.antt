@@ -1,29 +1,20 @@
 -- `read_text_line::carried::params_carried` meets its contract.
-use mathlib.Core.Path.{◌≡◌, refl}
-use Prim.Native.Nat.{◌*◌, ◌-◌}
-use lib.ListN.{length}
-use borrow.Author.Rules.{rules}
-use Rattle.octets.specs.Lists.{every}
-use Rattle.read_text_line.specs.Cursor.{params_at}
-use Rattle.read_text_line.specs.laws.Repeating.{walk_less, param_takes}
-use Rattle.read_text_line.specs.Carried.{carries_name}
+use Rattle.std.proofs.Common.{rules, ◌≡◌, ap, ◌∙◌, Ok, None}
+use Rattle.read_text_line.specs.laws.Params.{param_less}
 use Rattle.read_text_line.specs.laws.Carried.{carried_more, carried_stop, carried_over, carried_fault}
 use Rattle.read_text_line.proofs.carried.params_carried.Goals as goal
 
-pub loop-good-init : goal.loop-good-init
-loop-good-init c = refl
+pub returns-then-not-is_carried_name : goal.returns-then-not-is_carried_name
+returns-then-not-is_carried_name c = carried_stop c.loop-p.invariant c.next_param.ensures (c.in-Ok-Some.is ∙ ap Ok c.in-Ok-Some.field-0-is) c.is_carried_name.ensures c.if-not-is_carried_name.true
 
-pub loop-good-smaller : goal.loop-good-smaller
-loop-good-smaller c = walk_less c.next_param-p.ensures.item param_takes c.if-p.true c.if-p-2.true
+pub loop-p-smaller : goal.loop-p-smaller
+loop-p-smaller c = param_less c.next_param.ensures (c.in-Ok-Some.is ∙ ap Ok c.in-Ok-Some.field-0-is)
 
-pub loop-good-preserved : goal.loop-good-preserved
-loop-good-preserved c = carried_more c.loop-good.invariant c.next_param-p.ensures c.if-p.true c.if-p-2.true c.is_carried_name-good.ensures c.if-good.true
+pub loop-p-preserved : goal.loop-p-preserved
+loop-p-preserved c = carried_more c.loop-p.invariant c.next_param.ensures (c.in-Ok-Some.is ∙ ap Ok c.in-Ok-Some.field-0-is) c.is_carried_name.ensures c.if-not-is_carried_name.false
 
-pub returns-else-good : goal.returns-else-good
-returns-else-good c = carried_stop c.loop-good.invariant c.next_param-p.ensures c.if-p.true c.if-p-2.true c.is_carried_name-good.ensures c.if-good.false
+pub returns-in_default : goal.returns-in_default
+returns-in_default c = let e : c.in_default.field-0 ≡ None = search rules in carried_over c.loop-p.invariant c.next_param.ensures (c.in_default.is ∙ ap Ok e)
 
-pub returns-else-p-2 : goal.returns-else-p-2
-returns-else-p-2 c = carried_fault c.loop-good.invariant c.next_param-p.ensures c.if-p.true c.if-p-2.false
-
-pub returns-else-p : goal.returns-else-p
-returns-else-p c = carried_over c.loop-good.invariant c.next_param-p.ensures c.if-p.false
+pub returns-in_default-2 : goal.returns-in_default-2
+returns-in_default-2 c = carried_fault c.loop-p.invariant c.next_param.ensures c.in_default.is

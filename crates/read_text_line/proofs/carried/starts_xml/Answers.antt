@@ -1,7 +1,6 @@
 -- `read_text_line::carried::starts_xml` meets its contract.
 use mathlib.Core.List.{[], ◌∷◌}
 use native.Mathlib.Omega.{arith}
-use borrow.Author.Rules.{rules}
 use Rattle.read_text_line.specs.laws.Carried.{starts_more, starts_not, starts_last}
 use Rattle.read_text_line.proofs.carried.starts_xml.Goals as goal
 

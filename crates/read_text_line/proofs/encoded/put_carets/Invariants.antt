@@ -5,9 +5,7 @@ use lib.ListN.{length}
 use Rattle.sink.specs.Sink.{Todo}
 use Rattle.sink.specs.laws.Sink.{each}
 use Rattle.source.specs.Source.{rest}
-use Rattle.source.specs.laws.Copying.{copying}
 use Rattle.edition.specs.Edition.{encode_byte}
-use Rattle.read_text_line.specs.laws.Written.{encoding-each}
 use Rattle.read_text_line.proofs.encoded.put_carets.Given as goal
 
 abbrev pub invariant-loop-t : goal.invariant-loop-t

@@ -1,8 +1,7 @@
 -- `read_text_line::ends::line_end` meets its contract.
 use Prim.Native.Nat.{◌*◌, ◌-◌}
 use lib.ListN.{length}
-use borrow.Author.Rules.{rules}
-use Rattle.read_text_line.specs.laws.LineEnd.{Seeking, seeking_start, seeking_none, seeking_other, seeking_return, seeking_less, seeking_found}
+use Rattle.read_text_line.specs.laws.LineEnd.{Seeking}
 use Rattle.read_text_line.proofs.ends.line_end.Given as goal
 
 abbrev pub invariant-loop-n : goal.invariant-loop-n

@@ -1,8 +1,6 @@
 -- `read_text_line::ends::line_end_plain` meets its contract.
-use Prim.Native.Nat.{◌-◌}
 use native.Mathlib.Omega.{arith}
-use lib.ListN.{length}
-use Rattle.read_text_line.specs.laws.LineEnd.{Seeking, seeking_plain, found_most, found_end, found_loose, found_other}
+use Rattle.read_text_line.specs.laws.LineEnd.{seeking_plain, found_most, found_end, found_loose, found_other}
 use Rattle.read_text_line.proofs.ends.line_end_plain.Goals as goal
 
 pub loop-c-init : goal.loop-c-init

@@ -1,7 +1,7 @@
 -- `read_text_line::ends::line_end_plain` meets its contract.
 use Prim.Native.Nat.{◌-◌}
 use lib.ListN.{length}
-use Rattle.read_text_line.specs.laws.LineEnd.{Seeking, seeking_plain, found_other}
+use Rattle.read_text_line.specs.laws.LineEnd.{Seeking}
 use Rattle.read_text_line.proofs.ends.line_end_plain.Given as goal
 
 abbrev pub invariant-loop-c : goal.invariant-loop-c

@@ -1,16 +1,15 @@
 -- `read_text_line::line::line_at` meets its contract.
-use borrow.Author.Rules.{rules}
 use Rattle.read_text_line.specs.laws.Line.{line_unnamed, line_faulty, line_there, line_valueless}
 use Rattle.read_text_line.proofs.line.line_at.Goals as goal
 
-pub returns-then-none : goal.returns-then-none
-returns-then-none c = line_unnamed c.no_name-none.ensures c.if-none.true
+pub returns-then-no_name : goal.returns-then-no_name
+returns-then-no_name c = line_unnamed c.no_name.ensures c.if-no_name.true
 
-pub returns-then-v : goal.returns-then-v
-returns-then-v c = line_there c.no_name-none.ensures c.if-none.false c.name_end-e.ensures c.next_params-p.ensures c.if-p.true c.value_at-v.ensures c.if-v.true
+pub returns-in_default : goal.returns-in_default
+returns-in_default c = line_faulty c.no_name.ensures c.if-no_name.false c.name_end-parameters.ensures c.next_params.ensures c.in_default.is
 
-pub returns-then-p : goal.returns-then-p
-returns-then-p c = line_valueless c.no_name-none.ensures c.if-none.false c.name_end-e.ensures c.next_params-p.ensures c.if-p.true c.value_at-v.ensures c.if-v.false
+pub returns-in_err-value : goal.returns-in_err-value
+returns-in_err-value c = rw c.from_residual.ensures (line_valueless c.no_name.ensures c.if-no_name.false c.name_end-parameters.ensures c.next_params.ensures c.in-Ok.is c.value_at.ensures c.in_err-value.was)
 
 pub returns : goal.returns
-returns c = line_faulty c.no_name-none.ensures c.if-none.false c.name_end-e.ensures c.next_params-p.ensures c.if-p.false
+returns c = line_there c.no_name.ensures c.if-no_name.false c.name_end-parameters.ensures c.next_params.ensures c.in-Ok.is c.value_at.ensures c.in_ok-value.was

@@ -1,22 +1,20 @@
 -- `read_text_line::param::next_params` meets its contract.
-use Prim.Native.Nat.{◌*◌, ◌-◌}
-use lib.ListN.{length}
-use borrow.Author.Rules.{rules}
-use Rattle.read_text_line.specs.ContentLine.{next_param}
-use Rattle.read_text_line.specs.laws.Repeating.{Walk, param_takes, walk_start, walk_more, walk_less, walk_end, walk_bad}
+use Rattle.std.proofs.Common.{ap, ◌∙◌, Ok}
+use Rattle.read_text_line.specs.laws.Cursor.{err_any}
+use Rattle.read_text_line.specs.laws.Repeating.{param_takes, walk_start, walk_more, walk_less, walk_end, walk_bad}
 use Rattle.read_text_line.proofs.param.next_params.Goals as goal
 
-pub loop-c-init : goal.loop-c-init
-loop-c-init c = walk_start _ _ _ _
+pub loop-p-init : goal.loop-p-init
+loop-p-init c = walk_start _ _ _ _
 
-pub loop-c-smaller : goal.loop-c-smaller
-loop-c-smaller c = walk_less c.next_param-v.ensures.item param_takes c.if-v.true c.if-v-2.true
+pub returns-in_err-p : goal.returns-in_err-p
+returns-in_err-p c = rw (err_any c.from_residual.result _ c.from_residual.ensures.0) (walk_bad c.next_param.ensures.item c.loop-p.invariant c.in_err-p.was)
 
-pub loop-c-preserved : goal.loop-c-preserved
-loop-c-preserved c = walk_more c.next_param-v.ensures.item param_takes c.loop-c.invariant c.if-v.true c.if-v-2.true
+pub loop-p-smaller : goal.loop-p-smaller
+loop-p-smaller c = walk_less c.next_param.ensures.item param_takes (c.in_ok-p.was ∙ ap Ok c.in-Some.is)
 
-pub returns-else-v-2 : goal.returns-else-v-2
-returns-else-v-2 c = walk_bad c.next_param-v.ensures.item c.loop-c.invariant c.if-v.true c.if-v-2.false
+pub loop-p-preserved : goal.loop-p-preserved
+loop-p-preserved c = walk_more c.next_param.ensures.item param_takes c.loop-p.invariant (c.in_ok-p.was ∙ ap Ok c.in-Some.is)
 
-pub returns-else-v : goal.returns-else-v
-returns-else-v c = walk_end c.next_param-v.ensures.item c.loop-c.invariant c.if-v.false
+pub returns : goal.returns
+returns c = walk_end c.next_param.ensures.item c.loop-p.invariant (c.in_ok-p.was ∙ ap Ok c.in_default.is)

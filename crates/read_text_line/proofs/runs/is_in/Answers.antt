@@ -1,5 +1,4 @@
 -- `read_text_line::runs::is_in` meets its contract.
-use borrow.Author.Rules.{rules}
 use Rattle.read_text_line.proofs.runs.is_in.Goals as goal
 
 pub returns-in-Safe : goal.returns-in-Safe

@@ -1,21 +1,9 @@
--- `read_text_line::is_safe` meets its contract. Assumes nothing.
+-- `read_text_line::runs::is_safe` meets its contract.
 use Rattle.octets.specs.laws.Pick.{branching_joined}
 use Rattle.read_text_line.proofs.runs.is_safe.Goals as goal
 
-pub returns-then-u-eq-END : goal.returns-then-u-eq-END
-returns-then-u-eq-END c = search branching_joined
+pub returns-then-not-is_break : goal.returns-then-not-is_break
+returns-then-not-is_break c = search branching_joined
 
-pub is_break-b-requires : goal.is_break-b-requires
-is_break-b-requires c = search branching_joined
-
-pub returns-then-b : goal.returns-then-b
-returns-then-b c = search branching_joined
-
-pub is_mark-m-requires : goal.is_mark-m-requires
-is_mark-m-requires c = search branching_joined
-
-pub returns-then-m : goal.returns-then-m
-returns-then-m c = search branching_joined
-
-pub returns : goal.returns
-returns c = search branching_joined
+pub returns-else-not-is_break : goal.returns-else-not-is_break
+returns-else-not-is_break c = search branching_joined

@@ -1,8 +1,5 @@
 -- `read_text_line::runs::run_end_plain` meets its contract.
-use Prim.Native.Nat.{◌*◌, ◌-◌}
-use lib.ListN.{length}
-use Rattle.read_text_line.specs.Cursor.{char_of}
-use Rattle.read_text_line.specs.laws.Cursor.{Passing, passing}
+use Rattle.read_text_line.specs.laws.Cursor.{passing}
 use Rattle.read_text_line.proofs.runs.run_end_plain.Goals as goal
 
 pub loop-c-init : goal.loop-c-init

@@ -2,7 +2,7 @@
 use Prim.Native.Nat.{◌*◌, ◌-◌}
 use lib.ListN.{length}
 use Rattle.read_text_line.specs.Cursor.{char_of}
-use Rattle.read_text_line.specs.laws.Cursor.{Passing, passing}
+use Rattle.read_text_line.specs.laws.Cursor.{Passing}
 use Rattle.read_text_line.proofs.runs.run_end_plain.Given as goal
 
 abbrev pub invariant-loop-c : goal.invariant-loop-c

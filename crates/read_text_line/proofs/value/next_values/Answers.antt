@@ -1,22 +1,20 @@
 -- `read_text_line::value::next_values` meets its contract.
-use Prim.Native.Nat.{◌*◌, ◌-◌}
-use lib.ListN.{length}
-use borrow.Author.Rules.{rules}
-use Rattle.read_text_line.specs.ContentLine.{next_value}
-use Rattle.read_text_line.specs.laws.Repeating.{Walk, value_takes, walk_start, walk_more, walk_less, walk_end, walk_bad}
+use Rattle.std.proofs.Common.{ap, ◌∙◌, Ok}
+use Rattle.read_text_line.specs.laws.Cursor.{err_any}
+use Rattle.read_text_line.specs.laws.Repeating.{value_takes, walk_start, walk_more, walk_less, walk_end, walk_bad}
 use Rattle.read_text_line.proofs.value.next_values.Goals as goal
 
-pub loop-c-init : goal.loop-c-init
-loop-c-init c = walk_start _ _ _ _
+pub loop-v-init : goal.loop-v-init
+loop-v-init c = walk_start _ _ _ _
 
-pub loop-c-smaller : goal.loop-c-smaller
-loop-c-smaller c = walk_less c.next_value-v.ensures.item value_takes c.if-v.true c.if-v-2.true
+pub returns-in_err-v : goal.returns-in_err-v
+returns-in_err-v c = rw (err_any c.from_residual.result _ c.from_residual.ensures.0) (walk_bad c.next_value.ensures.item c.loop-v.invariant c.in_err-v.was)
 
-pub loop-c-preserved : goal.loop-c-preserved
-loop-c-preserved c = walk_more c.next_value-v.ensures.item value_takes c.loop-c.invariant c.if-v.true c.if-v-2.true
+pub loop-v-smaller : goal.loop-v-smaller
+loop-v-smaller c = walk_less c.next_value.ensures.item value_takes (c.in_ok-v.was ∙ ap Ok c.in-Some.is)
 
-pub returns-else-v-2 : goal.returns-else-v-2
-returns-else-v-2 c = walk_bad c.next_value-v.ensures.item c.loop-c.invariant c.if-v.true c.if-v-2.false
+pub loop-v-preserved : goal.loop-v-preserved
+loop-v-preserved c = walk_more c.next_value.ensures.item value_takes c.loop-v.invariant (c.in_ok-v.was ∙ ap Ok c.in-Some.is)
 
-pub returns-else-v : goal.returns-else-v
-returns-else-v c = walk_end c.next_value-v.ensures.item c.loop-c.invariant c.if-v.false
+pub returns : goal.returns
+returns c = walk_end c.next_value.ensures.item c.loop-v.invariant (c.in_ok-v.was ∙ ap Ok c.in_default.is)

@@ -1,5 +1,4 @@
 -- `read_text_line::value::param_value` meets its contract.
-use borrow.Author.Rules.{rules}
 use Rattle.read_text_line.specs.laws.Values.{value_quoted, value_text}
 use Rattle.read_text_line.proofs.value.param_value.Goals as goal
 

@@ -1,5 +1,4 @@
 -- `read_text_line::written::put_param_value` meets its contract.
-use borrow.Author.Rules.{rules}
 use Rattle.sink.specs.laws.Sink.{put_length}
 use Rattle.read_text_line.specs.laws.Written.{value_quoted_put, value_bare_put}
 use Rattle.read_text_line.proofs.written.put_param_value.Goals as goal

@@ -4,7 +4,6 @@ use Rattle.octets.specs.Words.{same}
 use Rattle.octets.specs.Class.{upper}
 use lib.ListN.{length-take}
 use native.Mathlib.Omega.{arith}
-use borrow.Author.Rules.{rules}
 use Rattle.read_text_parameters.proofs.cut.is_named.Goals as goal
 
 pub slice_bounds-is_word_any_case-end : goal.slice_bounds-is_word_any_case-end

@@ -5,7 +5,6 @@ use Rattle.names.specs.Table.{place_of}
 use Rattle.octets.specs.Class.{upper}
 use lib.ListN.{length-take}
 use native.Mathlib.Omega.{arith}
-use borrow.Author.Rules.{rules}
 use Rattle.read_text_parameters.proofs.cut.number_of.Goals as goal
 
 pub slice_bounds-parameter_number-end : goal.slice_bounds-parameter_number-end

@@ -1,7 +1,6 @@
 -- `read_text_parameters::make_heap` meets its contract. Assumes nothing.
 use mathlib.Core.Path.{◌≡◌}
 use lib.ListN.{length}
-use borrow.Author.Rules.{rules}
 use Rattle.read_text_parameters.proofs.heap.make_heap.Given as goal
 
 abbrev pub invariant-loop-i : goal.invariant-loop-i

@@ -1,13 +1,7 @@
 -- `read_text_parameters::name_at` meets its contract. Assumes nothing.
-use Rattle.read_text_parameters.specs.laws.Naming.{name_there, name_none}
-use borrow.Author.Rules.{rules}
+use Rattle.read_text_parameters.specs.laws.Naming.{name_there}
+use Rattle.std.proofs.Common.{ap, ◌∙◌, Ok}
 use Rattle.read_text_parameters.proofs.named.name_at.Goals as goal
 
-pub returns-then-a-2 : goal.returns-then-a-2
-returns-then-a-2 c = search (name_there, rules)
-
 pub returns-then-a : goal.returns-then-a
-returns-then-a c = search (name_none, rules)
-
-pub returns : goal.returns
-returns c = search (name_none, rules)
+returns-then-a c = name_there c.next_param.ensures (c.in-Ok-Some.is ∙ ap Ok c.in-Ok-Some.field-0-is) c.if-a.true

@@ -1,7 +1,4 @@
 -- `read_text_parameters::first_in_rounds`, which calls itself, meets its contract. Assumes nothing.
-use Rattle.read_text_parameters.specs.laws.Rounds.{ends_here}
-use borrow.Author.Rules.{rules}
-use Prim.Native.Nat.{ℕ, ◌<◌}
 use Rattle.read_text_parameters.proofs.once.+first_in_rounds.Given as goal
 
 abbrev pub decreases-first_in_rounds : goal.decreases-first_in_rounds

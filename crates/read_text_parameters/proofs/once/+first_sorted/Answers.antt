@@ -1,7 +1,5 @@
 -- `read_text_parameters::first_sorted`, which calls itself, meets its contract.
-use borrow.Author.Rules.{rules}
-use Prim.Native.Nat.{ℕ, ◌<◌}
 use Rattle.read_text_parameters.proofs.once.+first_sorted.Goals as goal
 
-pub returns-then-kept : goal.returns-then-kept
-returns-then-kept t c = rw (c.collect-kept.ensures c.if-kept.true) c.first_again.ensures
+pub returns-in-Some : goal.returns-in-Some
+returns-in-Some t c = rw (rw c.in-Some.is at c.collect.ensures) c.first_again.ensures

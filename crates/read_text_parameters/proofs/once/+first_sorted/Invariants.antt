@@ -1,6 +1,4 @@
 -- `read_text_parameters::first_sorted`, which calls itself, meets its contract.
-use borrow.Author.Rules.{rules}
-use Prim.Native.Nat.{ℕ, ◌<◌}
 use Rattle.read_text_parameters.proofs.once.+first_sorted.Given as goal
 
 abbrev pub decreases-first_sorted : goal.decreases-first_sorted

@@ -1,12 +1,10 @@
 -- `read_text_parameters::are_same` meets its contract.
-use Rattle.read_text_parameters.specs.laws.Comparing.{same_apart, same_end, same_more, same_less}
 use Rattle.source.specs.Source.{rest}
 use Rattle.octets.specs.Words.{same}
 use Rattle.octets.specs.Class.{upper}
 use lib.ListN.{length}
 use Prim.Native.Nat.{◌*◌, ◌-◌}
-use mathlib.Core.Path.{◌≡◌, refl, sym, ◌∙◌}
-use borrow.Author.Rules.{rules}
+use mathlib.Core.Path.{◌≡◌}
 use Rattle.read_text_parameters.proofs.once.are_same.Given as goal
 
 abbrev pub invariant-loop-x : goal.invariant-loop-x

@@ -1,13 +1,14 @@
 -- `read_text_parameters::is_end` meets its contract. Assumes nothing.
 use Rattle.read_text_parameters.specs.laws.Rounds.{ends_over, ends_fault, ends_again}
 use borrow.Author.Rules.{rules}
+use Rattle.std.proofs.Common.{ap, ◌∙◌, ◌≡◌, Ok, None, rules}
 use Rattle.read_text_parameters.proofs.once.is_end.Goals as goal
 
-pub returns-then-a-2 : goal.returns-then-a-2
-returns-then-a-2 c = search (ends_again, rules)
+pub returns-in_default : goal.returns-in_default
+returns-in_default c = let e : c.in_default.field-0 ≡ None = search rules in ends_over c.requires c.next_param.ensures (c.in_default.is ∙ ap Ok e)
 
-pub returns-then-a : goal.returns-then-a
-returns-then-a c = search (ends_fault, rules)
+pub returns-in_default-2 : goal.returns-in_default-2
+returns-in_default-2 c = ends_fault c.requires c.next_param.ensures c.in_default.is
 
 pub returns : goal.returns
-returns c = search (ends_over, rules)
+returns c = ends_again c.requires c.next_param.ensures (c.in-Ok-Some.is ∙ ap Ok c.in-Ok-Some.field-0-is) c.stands_before.ensures

@@ -6,7 +6,6 @@ use Rattle.octets.specs.Words.{same}
 use Rattle.octets.specs.Class.{upper}
 use lib.ListN.{take, length-take}
 use native.Mathlib.Omega.{arith}
-use borrow.Author.Rules.{rules}
 use Rattle.read_text_parameters.proofs.once.same_names.Goals as goal
 
 pub slice_bounds-are_same-end : goal.slice_bounds-are_same-end

@@ -1,15 +1,10 @@
 -- `read_text_parameters::stands_before` meets its contract.
-use mathlib.Core.Path.{◌≡◌, refl, sym, ◌∙◌}
-use mathlib.Core.List.{List}
+use mathlib.Core.Path.{◌≡◌}
 use lib.ListN.{take}
 use Rattle.octets.specs.Words.{is_one_of}
-use Rattle.read_text_line.specs.ContentLine.{RawParameter}
 use Rattle.read_text_line.specs.Cursor.{params_at}
 use Rattle.read_text_parameters.specs.Cutting.{name_cut}
 use Rattle.read_text_parameters.specs.Comparing.{names_of}
-use Rattle.read_text_parameters.specs.laws.Cutting.{params_step, params_over, params_fault}
-use Rattle.read_text_parameters.specs.laws.Before.{first_over, first_zero, first_go, first_halt}
-use borrow.Author.Rules.{rules}
 use Rattle.read_text_parameters.proofs.once.stands_before.Given as goal
 
 abbrev pub invariant-loop-left : goal.invariant-loop-left

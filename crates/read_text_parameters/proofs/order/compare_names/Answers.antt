@@ -1,9 +1,5 @@
 -- `read_text_parameters::compare_names` meets its contract. Assumes nothing.
-use mathlib.Core.Path.{◌≡◌, refl}
-use Prim.Native.Nat.{◌*◌, ◌-◌}
-use lib.ListN.{length}
-use Rattle.distinct.specs.Order.{order}
-use Rattle.read_text_parameters.specs.Naming.{name_at}
+use mathlib.Core.Path.{refl}
 use Rattle.read_text_parameters.specs.laws.Naming.{name_less, name_more, name_end, name_on, name_nearer}
 use borrow.Author.Rules.{rules}
 use Rattle.read_text_parameters.proofs.order.compare_names.Goals as goal

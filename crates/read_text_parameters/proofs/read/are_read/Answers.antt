@@ -3,31 +3,27 @@ use Rattle.read_text_parameters.specs.laws.Steps.{every_nil, every_go, every_hal
 use Rattle.read_text_parameters.specs.Readable.{is_readable}
 use Rattle.read_text_parameters.specs.laws.Readable.{all_read}
 use Rattle.read_text_parameters.specs.laws.Cutting.{read_step, read_over, read_fault}
-use Rattle.text.specs.Parameters.{read_parameters}
 use Rattle.read_text_line.specs.laws.Params.{param_less}
-use Rattle.read_text_line.specs.Decoded.{params_in}
-use Rattle.octets.specs.Reading.{is_read}
 use Rattle.octets.specs.Lists.{every}
-use lib.ListN.{length}
-use Prim.Native.Nat.{◌*◌, ◌-◌}
 use mathlib.Core.Path.{◌≡◌, sym, ◌∙◌}
 use borrow.Author.Rules.{rules}
+use Rattle.std.proofs.Common.{ap, ◌∙◌, ◌≡◌, Ok, None, rules}
 use Rattle.read_text_parameters.proofs.read.are_read.Goals as goal
 
-pub loop-good-init : goal.loop-good-init
-loop-good-init c = all_read _
+pub loop-a-init : goal.loop-a-init
+loop-a-init c = all_read _
 
-pub loop-good-smaller : goal.loop-good-smaller
-loop-good-smaller c = param_less c.next_param-a.ensures c.if-a.true c.if-a-2.true
+pub loop-a-smaller : goal.loop-a-smaller
+loop-a-smaller c = param_less c.next_param.ensures (c.in-Ok-Some.is ∙ ap Ok c.in-Ok-Some.field-0-is)
 
-pub loop-good-preserved : goal.loop-good-preserved
-loop-good-preserved c = read_step _ c.requires (every is_readable) c.loop-good.invariant c.next_param-a.ensures c.if-a.true c.if-a-2.true ∙ every_go is_readable _ _ c.is_readable-good.ensures c.if-good.true
+pub loop-a-preserved : goal.loop-a-preserved
+loop-a-preserved c = read_step _ c.requires (every is_readable) c.loop-a.invariant c.next_param.ensures (c.in-Ok-Some.is ∙ ap Ok c.in-Ok-Some.field-0-is) ∙ every_go is_readable _ _ c.is_readable.ensures c.if-not-is_readable.false
 
-pub returns-else-good : goal.returns-else-good
-returns-else-good c = sym (read_step _ c.requires (every is_readable) c.loop-good.invariant c.next_param-a.ensures c.if-a.true c.if-a-2.true ∙ every_halt is_readable _ _ c.is_readable-good.ensures c.if-good.false)
+pub returns-then-not-is_readable : goal.returns-then-not-is_readable
+returns-then-not-is_readable c = sym (read_step _ c.requires (every is_readable) c.loop-a.invariant c.next_param.ensures (c.in-Ok-Some.is ∙ ap Ok c.in-Ok-Some.field-0-is) ∙ every_halt is_readable _ _ c.is_readable.ensures c.if-not-is_readable.true)
 
-pub returns-else-a-2 : goal.returns-else-a-2
-returns-else-a-2 c = sym (read_fault _ c.requires (every is_readable) c.loop-good.invariant c.next_param-a.ensures c.if-a.true c.if-a-2.false ∙ every_nil is_readable)
+pub returns-in_default : goal.returns-in_default
+returns-in_default c = let e : c.in_default.field-0 ≡ None = search rules in sym (read_over _ c.requires (every is_readable) c.loop-a.invariant c.next_param.ensures (c.in_default.is ∙ ap Ok e) ∙ every_nil is_readable)
 
-pub returns-else-a : goal.returns-else-a
-returns-else-a c = sym (read_over _ c.requires (every is_readable) c.loop-good.invariant c.next_param-a.ensures c.if-a.false ∙ every_nil is_readable)
+pub returns-in_default-2 : goal.returns-in_default-2
+returns-in_default-2 c = sym (read_fault _ c.requires (every is_readable) c.loop-a.invariant c.next_param.ensures c.in_default.is ∙ every_nil is_readable)

@@ -1,10 +1,10 @@
--- `read_text_parameters::has_amount` meets its contract.
-use Rattle.octets.specs.laws.Pick.{or_take, or_skip, flag_yes, flag_no}
-use borrow.Author.Rules.{rules}
+-- `read_text_parameters::read::has_amount` meets its contract.
+use Rattle.std.proofs.Common.{sym, ◌∙◌}
+use Rattle.octets.specs.laws.Pick.{or_take, or_skip}
 use Rattle.read_text_parameters.proofs.read.has_amount.Goals as goal
 
-pub returns-then-listed : goal.returns-then-listed
-returns-then-listed c = or_take _ _ (flag_yes _ _ c.is_listed_parameter-listed.ensures c.if-listed.true)
+pub returns-then-is_listed_parameter : goal.returns-then-is_listed_parameter
+returns-then-is_listed_parameter c = c.if-is_listed_parameter.true ∙ or_take _ _ (sym c.is_listed_parameter.ensures ∙ c.if-is_listed_parameter.true)
 
-pub returns : goal.returns
-returns c = or_skip _ _ _ (flag_no _ _ c.is_listed_parameter-listed.ensures c.if-listed.false) c.is_single.ensures
+pub returns-else-is_listed_parameter : goal.returns-else-is_listed_parameter
+returns-else-is_listed_parameter c = or_skip _ _ _ (sym c.is_listed_parameter.ensures ∙ c.if-is_listed_parameter.false) c.is_single.ensures

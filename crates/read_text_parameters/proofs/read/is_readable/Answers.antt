@@ -3,7 +3,6 @@ use Rattle.read_text_parameters.specs.laws.Readable.{readable_value, readable_ot
 use Rattle.read_text_line.specs.Decoded.{values_in}
 use Rattle.source.specs.Source.{rest}
 use lib.ListN.{take}
-use borrow.Author.Rules.{rules}
 use Rattle.read_text_parameters.proofs.read.is_readable.Goals as goal
 
 pub returns-then-value : goal.returns-then-value

@@ -1,6 +1,5 @@
 -- `read_text_parameters::absent` meets its contract. Assumes nothing.
-use Prim.Native.Nat.{◌-◌, ◌≤◌}
-use Rattle.read_text_parameters.specs.laws.Rounds.{Missing, missing_start, missing_more, missing_end}
+use Rattle.read_text_parameters.specs.laws.Rounds.{missing_start, missing_more, missing_end}
 use borrow.Author.Rules.{rules}
 use Rattle.read_text_parameters.proofs.rounds.absent.Goals as goal
 
@@ -10,11 +9,11 @@ loop-k-init c = search (missing_start, rules)
 pub loop-k-preserved : goal.loop-k-preserved
 loop-k-preserved c = search (missing_more, rules)
 
-pub returns-else-between : goal.returns-else-between
-returns-else-between c = search (missing_end, rules)
+pub returns-in_default : goal.returns-in_default
+returns-in_default c = search (missing_end, rules)
 
-pub returns-else-a : goal.returns-else-a
-returns-else-a c = search (missing_end, rules)
+pub returns-then-not-is_between : goal.returns-then-not-is_between
+returns-then-not-is_between c = search (missing_end, rules)
 
 pub returns : goal.returns
 returns c = search (missing_end, rules)

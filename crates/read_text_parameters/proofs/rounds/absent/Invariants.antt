@@ -1,7 +1,6 @@
 -- `read_text_parameters::absent` meets its contract. Assumes nothing.
 use Prim.Native.Nat.{◌-◌, ◌≤◌}
-use Rattle.read_text_parameters.specs.laws.Rounds.{Missing, missing_start, missing_more, missing_end}
-use borrow.Author.Rules.{rules}
+use Rattle.read_text_parameters.specs.laws.Rounds.{Missing}
 use Rattle.read_text_parameters.proofs.rounds.absent.Given as goal
 
 abbrev pub invariant-loop-k : goal.invariant-loop-k

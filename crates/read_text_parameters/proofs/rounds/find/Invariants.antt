@@ -1,6 +1,5 @@
 -- `read_text_parameters::find` meets its contract. Assumes nothing.
 use Prim.Native.Nat.{◌-◌, ◌≤◌}
-use borrow.Author.Rules.{rules}
 use Rattle.read_text_parameters.proofs.rounds.find.Given as goal
 
 abbrev pub invariant-loop-low : goal.invariant-loop-low

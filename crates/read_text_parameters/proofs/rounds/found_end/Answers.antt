@@ -1,5 +1,4 @@
 -- `read_text_parameters::found_end` meets its contract. Assumes nothing.
-use Rattle.read_text_parameters.specs.Rounds.{Found}
 use Rattle.read_text_parameters.specs.laws.Rounds.{found_start, found_more, found_fits}
 use borrow.Author.Rules.{rules}
 use Rattle.read_text_parameters.proofs.rounds.found_end.Goals as goal
@@ -11,4 +10,4 @@ pub overflow_add-k : goal.overflow_add-k
 overflow_add-k c = search (found_fits, rules)
 
 pub loop-more-preserved : goal.loop-more-preserved
-loop-more-preserved c = search (found_more, rules)
+loop-more-preserved c = found_more c.requires c.loop-more.invariant (rw c.in-Some.is at c.held_at.ensures) c.loop-more-test.true

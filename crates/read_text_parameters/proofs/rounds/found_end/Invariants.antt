@@ -1,7 +1,5 @@
 -- `read_text_parameters::found_end` meets its contract. Assumes nothing.
 use Rattle.read_text_parameters.specs.Rounds.{Found}
-use Rattle.read_text_parameters.specs.laws.Rounds.{found_start, found_more, found_fits}
-use borrow.Author.Rules.{rules}
 use Rattle.read_text_parameters.proofs.rounds.found_end.Given as goal
 
 abbrev pub invariant-loop-more : goal.invariant-loop-more

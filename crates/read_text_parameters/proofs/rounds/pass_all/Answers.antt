@@ -1,8 +1,4 @@
 -- `read_text_parameters::pass_all` meets its contract. Assumes nothing.
-use mathlib.Core.Path.{◌≡◌}
-use Prim.Native.Nat.{◌+◌, ◌≤◌}
-use lib.ListN.{length}
-use Rattle.read_text_parameters.specs.Rounds.{Passed}
 use Rattle.read_text_parameters.specs.laws.Rounds.{passed_start, passed_more, passed_fits, passed_all}
 use borrow.Author.Rules.{rules}
 use Rattle.read_text_parameters.proofs.rounds.pass_all.Goals as goal

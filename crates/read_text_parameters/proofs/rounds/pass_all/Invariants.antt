@@ -3,8 +3,6 @@ use mathlib.Core.Path.{◌≡◌}
 use Prim.Native.Nat.{◌+◌, ◌≤◌}
 use lib.ListN.{length}
 use Rattle.read_text_parameters.specs.Rounds.{Passed}
-use Rattle.read_text_parameters.specs.laws.Rounds.{passed_start, passed_more, passed_fits, passed_all}
-use borrow.Author.Rules.{rules}
 use Rattle.read_text_parameters.proofs.rounds.pass_all.Given as goal
 
 abbrev pub invariant-loop-left : goal.invariant-loop-left

@@ -1,10 +1,7 @@
 -- `read_text_parameters::rise` meets its contract. Assumes nothing.
 use Prim.Native.Nat.{◌+◌, ◌-◌, ◌^◌, ◌<◌}
-use native.Mathlib.Omega.{arith}
 use Rattle.distinct.specs.Rising.{Rising}
-use Rattle.distinct.specs.laws.Rising.{rising_start, rising_more, rising_fewer}
 use Rattle.read_text_parameters.specs.Naming.{name_at}
-use borrow.Author.Rules.{rules}
 use Rattle.read_text_parameters.proofs.rounds.rise.Given as goal
 
 abbrev pub invariant-loop-i : goal.invariant-loop-i

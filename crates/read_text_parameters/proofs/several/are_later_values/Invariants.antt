@@ -1,9 +1,5 @@
 -- `read_text_parameters::are_later_values` meets its contract.
-use Rattle.read_text_parameters.specs.laws.Readable.{later_go, later_halt}
-use Rattle.read_text_parameters.specs.laws.Steps.{every_nil}
 use Rattle.read_text_parameters.specs.Typing.{is_value_in}
-use Rattle.read_text_parameters.specs.laws.Cutting.{values_over, values_fault}
-use Rattle.read_text_line.specs.laws.Values.{value_less}
 use Rattle.read_text_line.specs.Items.{items}
 use Rattle.read_text_line.specs.ContentLine.{next_value}
 use Rattle.schema.specs.Numbers.{parameter_at}
@@ -11,12 +7,11 @@ use Rattle.source.specs.Source.{rest}
 use Rattle.octets.specs.Lists.{every}
 use lib.ListN.{length}
 use Prim.Native.Nat.{◌*◌, ◌-◌}
-use mathlib.Core.Path.{◌≡◌, refl, sym, ◌∙◌}
-use borrow.Author.Rules.{rules}
+use mathlib.Core.Path.{◌≡◌}
 use Rattle.read_text_parameters.proofs.several.are_later_values.Given as goal
 
-abbrev pub invariant-loop-good : goal.invariant-loop-good
-invariant-loop-good l = every (is_value_in l.edition (parameter_at l.q)) (items next_value (rest l.mode l.s l.at)) ≡ every (is_value_in l.edition (parameter_at l.q)) (items next_value (rest l.mode l.s l.c))
+abbrev pub invariant-loop-v : goal.invariant-loop-v
+invariant-loop-v l = every (is_value_in l.edition (parameter_at l.q)) (items next_value (rest l.mode l.s l.at)) ≡ every (is_value_in l.edition (parameter_at l.q)) (items next_value (rest l.mode l.s l.c))
 
-abbrev pub decreases-loop-good : goal.decreases-loop-good
-decreases-loop-good l = 4 * length l.s - l.c
+abbrev pub decreases-loop-v : goal.decreases-loop-v
+decreases-loop-v l = 4 * length l.s - l.c

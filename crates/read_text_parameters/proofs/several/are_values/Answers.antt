@@ -6,14 +6,15 @@ use Rattle.read_text_parameters.specs.laws.Cutting.{values_none}
 use Rattle.schema.specs.Numbers.{parameter_at}
 use Rattle.octets.specs.Lists.{every}
 use mathlib.Core.Path.{sym, ap, ◌∙◌}
-use borrow.Author.Rules.{rules}
+use Rattle.std.proofs.Common.{ap, ◌∙◌}
+use Rattle.read_text_line.specs.Cursor.{there}
 use Rattle.read_text_parameters.proofs.several.are_values.Goals as goal
 
-pub returns-then-good : goal.returns-then-good
-returns-then-good c = first_go c.requires (is_value_in c.args.edition (parameter_at c.args.q)) c.is_cut_value-good.ensures c.param_value-v.ensures c.if-v.true c.if-good.true c.are_later_values.ensures
+pub returns-in_default : goal.returns-in_default
+returns-in_default c = let p = is_value_in c.args.edition (parameter_at c.args.q) in sym (ap (every p) (values_none c.requires c.param_value.ensures (ap there c.in_default.is)) ∙ every_nil p)
 
-pub returns-then-v : goal.returns-then-v
-returns-then-v c = first_halt c.requires (is_value_in c.args.edition (parameter_at c.args.q)) c.is_cut_value-good.ensures c.param_value-v.ensures c.if-v.true c.if-good.false
+pub returns-then-is_cut_value : goal.returns-then-is_cut_value
+returns-then-is_cut_value c = first_go c.requires (is_value_in c.args.edition (parameter_at c.args.q)) c.is_cut_value.ensures c.param_value.ensures (ap there c.in-Ok.is) c.if-is_cut_value.true c.are_later_values.ensures
 
-pub returns : goal.returns
-returns c = let p = is_value_in c.args.edition (parameter_at c.args.q) in sym (ap (every p) (values_none c.requires c.param_value-v.ensures c.if-v.false) ∙ every_nil p)
+pub returns-else-is_cut_value : goal.returns-else-is_cut_value
+returns-else-is_cut_value c = c.if-is_cut_value.false ∙ first_halt c.requires (is_value_in c.args.edition (parameter_at c.args.q)) c.is_cut_value.ensures c.param_value.ensures (ap there c.in-Ok.is) c.if-is_cut_value.false

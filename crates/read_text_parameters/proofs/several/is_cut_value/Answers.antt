@@ -5,7 +5,6 @@ use Rattle.schema.specs.Numbers.{parameter_at}
 use mathlib.Core.Path.{ap, ◌∙◌}
 use lib.ListN.{take, length-take}
 use native.Mathlib.Omega.{arith}
-use borrow.Author.Rules.{rules}
 use Rattle.read_text_parameters.proofs.several.is_cut_value.Goals as goal
 
 pub slice_bounds-is_value_at-end : goal.slice_bounds-is_value_at-end

@@ -1,13 +1,14 @@
 -- `read_text_parameters::is_last` meets its contract.
 use Rattle.read_text_parameters.specs.laws.Cutting.{last_more, last_fault, last_over}
 use borrow.Author.Rules.{rules}
+use Rattle.std.proofs.Common.{ap, ◌∙◌, ◌≡◌, Ok, None, rules}
 use Rattle.read_text_parameters.proofs.several.is_last.Goals as goal
 
-pub returns-then-v-2 : goal.returns-then-v-2
-returns-then-v-2 c = last_more c.requires c.next_value-v.ensures c.if-v.true c.if-v-2.true
+pub returns-in_default : goal.returns-in_default
+returns-in_default c = let e : c.in_default.field-0 ≡ None = search rules in last_over c.requires c.next_value.ensures (c.in_default.is ∙ ap Ok e)
 
-pub returns-then-v : goal.returns-then-v
-returns-then-v c = last_fault c.requires c.next_value-v.ensures c.if-v.true c.if-v-2.false
+pub returns-in_default-2 : goal.returns-in_default-2
+returns-in_default-2 c = last_fault c.requires c.next_value.ensures c.in_default.is
 
 pub returns : goal.returns
-returns c = last_over c.requires c.next_value-v.ensures c.if-v.false
+returns c = last_more c.requires c.next_value.ensures (c.in-Ok-Some.is ∙ ap Ok c.in-Ok-Some.field-0-is)

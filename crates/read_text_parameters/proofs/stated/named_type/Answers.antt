@@ -6,7 +6,6 @@ use Rattle.names.specs.Table.{place_of}
 use Rattle.octets.specs.Class.{upper}
 use lib.ListN.{length-take}
 use native.Mathlib.Omega.{arith}
-use borrow.Author.Rules.{rules}
 use Rattle.read_text_parameters.proofs.stated.named_type.Goals as goal
 
 pub slice_bounds-type_number-end : goal.slice_bounds-type_number-end
@@ -15,5 +14,5 @@ slice_bounds-type_number-end c = simp length-take (omega arith)
 pub returns-then-t-lt-KNOWN : goal.returns-then-t-lt-KNOWN
 returns-then-t-lt-KNOWN c = type_some _ (cut_at (λ l. place_of (upper l) type_names) c.args.mode c.args.s.now c.args.from c.args.to c.smaller-e.ensures c.type_number-t.ensures) c.if-t-lt-KNOWN.true
 
-pub returns : goal.returns
-returns c = type_none _ (cut_at (λ l. place_of (upper l) type_names) c.args.mode c.args.s.now c.args.from c.args.to c.smaller-e.ensures c.type_number-t.ensures) c.if-t-lt-KNOWN.false
+pub returns-else-t-lt-KNOWN : goal.returns-else-t-lt-KNOWN
+returns-else-t-lt-KNOWN c = type_none _ (cut_at (λ l. place_of (upper l) type_names) c.args.mode c.args.s.now c.args.from c.args.to c.smaller-e.ensures c.type_number-t.ensures) c.if-t-lt-KNOWN.false

@@ -1,25 +1,24 @@
 -- `read_text_parameters::stated_type` meets its contract.
-use Rattle.read_text_parameters.specs.laws.Stating.{Stating, stated_start, stated_more, stated_here, stated_over, stated_fault}
+use Rattle.read_text_parameters.specs.laws.Stating.{stated_start, stated_more, stated_here, stated_over, stated_fault}
 use Rattle.read_text_line.specs.laws.Params.{param_less}
-use lib.ListN.{length}
-use Prim.Native.Nat.{◌*◌, ◌-◌}
 use borrow.Author.Rules.{rules}
+use Rattle.std.proofs.Common.{ap, ◌∙◌, ◌≡◌, Ok, None, rules}
 use Rattle.read_text_parameters.proofs.stated.stated_type.Goals as goal
 
-pub loop-value-init : goal.loop-value-init
-loop-value-init c = stated_start _ _ _ _ _
+pub loop-a-init : goal.loop-a-init
+loop-a-init c = stated_start _ _ _ _ _
 
-pub returns-then-value : goal.returns-then-value
-returns-then-value c = stated_here c.requires c.loop-value.invariant c.next_param-a.ensures c.if-a.true c.if-a-2.true c.is_value_name-value.ensures c.if-value.true c.type_in.ensures
+pub returns-then-is_value_name : goal.returns-then-is_value_name
+returns-then-is_value_name c = stated_here c.requires c.loop-a.invariant c.next_param.ensures (c.in-Ok-Some.is ∙ ap Ok c.in-Ok-Some.field-0-is) c.is_value_name.ensures c.if-is_value_name.true c.type_in.ensures
 
-pub loop-value-smaller : goal.loop-value-smaller
-loop-value-smaller c = param_less c.next_param-a.ensures c.if-a.true c.if-a-2.true
+pub loop-a-smaller : goal.loop-a-smaller
+loop-a-smaller c = param_less c.next_param.ensures (c.in-Ok-Some.is ∙ ap Ok c.in-Ok-Some.field-0-is)
 
-pub loop-value-preserved : goal.loop-value-preserved
-loop-value-preserved c = stated_more c.requires c.loop-value.invariant c.next_param-a.ensures c.if-a.true c.if-a-2.true c.is_value_name-value.ensures c.if-value.false
+pub loop-a-preserved : goal.loop-a-preserved
+loop-a-preserved c = stated_more c.requires c.loop-a.invariant c.next_param.ensures (c.in-Ok-Some.is ∙ ap Ok c.in-Ok-Some.field-0-is) c.is_value_name.ensures c.if-is_value_name.false
 
-pub returns-else-a-2 : goal.returns-else-a-2
-returns-else-a-2 c = stated_fault c.requires c.loop-value.invariant c.next_param-a.ensures c.if-a.true c.if-a-2.false
+pub returns-in_default : goal.returns-in_default
+returns-in_default c = let e : c.in_default.field-0 ≡ None = search rules in stated_over c.requires c.loop-a.invariant c.next_param.ensures (c.in_default.is ∙ ap Ok e)
 
-pub returns-else-a : goal.returns-else-a
-returns-else-a c = stated_over c.requires c.loop-value.invariant c.next_param-a.ensures c.if-a.false
+pub returns-in_default-2 : goal.returns-in_default-2
+returns-in_default-2 c = stated_fault c.requires c.loop-a.invariant c.next_param.ensures c.in_default.is

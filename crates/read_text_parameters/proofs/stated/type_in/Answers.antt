@@ -1,13 +1,14 @@
 -- `read_text_parameters::type_in` meets its contract.
 use Rattle.read_text_parameters.specs.laws.Stating.{value_single, value_several, value_none}
-use borrow.Author.Rules.{rules}
+use Rattle.std.proofs.Common.{ap}
+use Rattle.read_text_line.specs.Cursor.{there}
 use Rattle.read_text_parameters.proofs.stated.type_in.Goals as goal
 
-pub returns-then-last : goal.returns-then-last
-returns-then-last c = value_single _ c.requires c.param_value-v.ensures c.if-v.true c.is_last-last.ensures c.value_mode-m.ensures c.if-last.true c.named_type.ensures
+pub returns-in_default : goal.returns-in_default
+returns-in_default c = value_none _ c.requires c.param_value.ensures (ap there c.in_default.is)
 
-pub returns-then-v : goal.returns-then-v
-returns-then-v c = value_several _ c.requires c.param_value-v.ensures c.if-v.true c.is_last-last.ensures c.if-last.false
+pub returns-then-is_last : goal.returns-then-is_last
+returns-then-is_last c = value_single _ c.requires c.param_value.ensures (ap there c.in-Ok.is) c.is_last.ensures c.value_mode-m.ensures c.if-is_last.true c.named_type.ensures
 
 pub returns : goal.returns
-returns c = value_none _ c.requires c.param_value-v.ensures c.if-v.false
+returns c = value_several _ c.requires c.param_value.ensures (ap there c.in-Ok.is) c.is_last.ensures c.if-is_last.false

@@ -1,6 +1,5 @@
 -- `read_text_parameters::first_twice` meets its contract. Assumes nothing.
 use Prim.Native.Nat.{◌-◌, ◌^◌, ◌<◌}
-use borrow.Author.Rules.{rules}
 use Rattle.read_text_parameters.proofs.twice.first_twice.Given as goal
 
 abbrev pub invariant-loop-i : goal.invariant-loop-i

@@ -1,7 +1,6 @@
 -- `read_text_parameters::is_typed` meets its contract.
 use Rattle.values.specs.laws.ValueAt.{good_yes, good_no}
 use Rattle.read_text_parameters.specs.laws.Typing.{typed_text, typed_unknown, typed_other, typed_there}
-use borrow.Author.Rules.{rules}
 use Rattle.read_text_parameters.proofs.typed.is_typed.Goals as goal
 
 pub returns-then-t-eq-TEXT : goal.returns-then-t-eq-TEXT
@@ -14,4 +13,4 @@ pub returns-in_default : goal.returns-in_default
 returns-in_default c = typed_other _ _ c.parameter_type-t.ensures c.if-t-eq-TEXT.false c.if-t-eq-UNKNOWN.false (good_no _ (typed_there c.args.q _ _ c.parameter_type-t.ensures c.read_value.ensures) c.in_default.is)
 
 pub returns : goal.returns
-returns c = typed_other _ _ c.parameter_type-t.ensures c.if-t-eq-TEXT.false c.if-t-eq-UNKNOWN.false (good_yes _ (typed_there c.args.q _ _ c.parameter_type-t.ensures c.read_value.ensures) c.in-Good.is)
+returns c = typed_other _ _ c.parameter_type-t.ensures c.if-t-eq-TEXT.false c.if-t-eq-UNKNOWN.false (good_yes _ (typed_there c.args.q _ _ c.parameter_type-t.ensures c.read_value.ensures) c.in-Some.is)

@@ -2,7 +2,6 @@
 use Rattle.schema.specs.Numbers.{parameter_at}
 use Rattle.source.specs.Source.{rest}
 use Rattle.read_text_parameters.specs.laws.Typing.{by_quoted, by_missing, by_free}
-use borrow.Author.Rules.{rules}
 use Rattle.read_text_parameters.proofs.typed.is_value_at.Goals as goal
 
 pub returns-then-quoted : goal.returns-then-quoted

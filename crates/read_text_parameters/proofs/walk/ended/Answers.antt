@@ -1,6 +1,5 @@
 -- `read_text_parameters::ended` meets its contract.
 use Rattle.octets.specs.laws.Pick.{branching}
-use borrow.Author.Rules.{rules}
 use Rattle.read_text_parameters.proofs.walk.ended.Goals as goal
 
 pub returns-then-encoded : goal.returns-then-encoded

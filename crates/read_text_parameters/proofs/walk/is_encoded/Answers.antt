@@ -1,7 +1,6 @@
 -- `read_text_parameters::is_encoded` meets its contract.
 use Rattle.read_text_parameters.specs.laws.Judging.{encodes_is, encodes_other, encodes_none}
 use Rattle.read_text_line.specs.Decoded.{values_in}
-use borrow.Author.Rules.{rules}
 use Rattle.read_text_parameters.proofs.walk.is_encoded.Goals as goal
 
 pub returns-then-q-eq-ENCODING : goal.returns-then-q-eq-ENCODING

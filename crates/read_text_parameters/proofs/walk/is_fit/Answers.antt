@@ -1,6 +1,5 @@
 -- `read_text_parameters::is_fit` meets its contract.
 use Rattle.octets.specs.laws.Pick.{branching}
-use borrow.Author.Rules.{rules}
 use Rattle.read_text_parameters.proofs.walk.is_fit.Goals as goal
 
 pub returns-then-read : goal.returns-then-read

@@ -1,6 +1,5 @@
 -- `read_text_parameters::is_other_again` meets its contract.
 use Rattle.octets.specs.laws.Pick.{branching}
-use borrow.Author.Rules.{rules}
 use Rattle.read_text_parameters.proofs.walk.is_other_again.Goals as goal
 
 pub returns-then-k-lt-FEW : goal.returns-then-k-lt-FEW

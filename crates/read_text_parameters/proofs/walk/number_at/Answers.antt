@@ -1,6 +1,5 @@
 -- `read_text_parameters::number_at` meets its contract.
 use Rattle.read_text_parameters.specs.laws.Walking.{number_known, number_named, number_none}
-use borrow.Author.Rules.{rules}
 use Rattle.read_text_parameters.proofs.walk.number_at.Goals as goal
 
 pub returns-then-q-lt-KNOWN : goal.returns-then-q-lt-KNOWN

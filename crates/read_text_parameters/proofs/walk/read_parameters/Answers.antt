@@ -1,32 +1,29 @@
 -- `read_text_parameters::read_parameters` meets its contract.
-use Prim.Native.Nat.{◌*◌, ◌-◌}
 use native.Mathlib.Omega.{arith}
-use lib.ListN.{length}
 use Rattle.read_text_line.specs.laws.Params.{param_less}
-use Rattle.read_text_parameters.specs.laws.Walking.{number_fits, Stepping, step_start, step_over, step_fault, step_again, step_bad, step_room, step_more}
+use Rattle.read_text_parameters.specs.laws.Walking.{number_fits, step_start, step_over, step_fault, step_again, step_bad, step_room, step_more}
 use borrow.Author.Rules.{rules}
+use Rattle.std.proofs.Common.{ap, ◌∙◌, ◌≡◌, Ok, None, rules}
 use Rattle.read_text_parameters.proofs.walk.read_parameters.Goals as goal
+use Rattle.read_text_parameters.proofs.walk.read_parameters.Goals.{in_default, in_default-2}
 
-pub loop-q-init : goal.loop-q-init
-loop-q-init c = step_start _ _ _ _ _
+pub loop-a-init : goal.loop-a-init
+loop-a-init c = step_start _ _ _ _ _
 
-pub returns-then-again : goal.returns-then-again
-returns-then-again c = step_again c.requires c.loop-q.invariant c.next_param-a.ensures c.if-a.true c.if-a-2.true c.number_at-q.ensures c.sought-m.ensures c.is_again-again.ensures c.if-again.true
+pub returns-then-is_again : goal.returns-then-is_again
+returns-then-is_again c = step_again c.requires c.loop-a.invariant c.next_param.ensures (c.in-Ok-Some.is ∙ ap Ok c.in-Ok-Some.field-0-is) c.number_at-q.ensures c.sought-m.ensures c.is_again.ensures c.if-is_again.true
 
-pub returns-in_default : goal.returns-in_default
-returns-in_default c = step_bad c.requires c.loop-q.invariant c.next_param-a.ensures c.if-a.true c.if-a-2.true c.number_at-q.ensures c.sought-m.ensures c.is_again-again.ensures c.type_behind.ensures c.in_default.is
+pub returns-in_default-type_behind : goal.returns-in_default-type_behind
+returns-in_default-type_behind c = step_bad c.requires c.loop-a.invariant c.next_param.ensures (c.in-Ok-Some.is ∙ ap Ok c.in-Ok-Some.field-0-is) c.number_at-q.ensures c.sought-m.ensures c.is_again.ensures c.type_behind.ensures c.in_default-type_behind.is
 
 pub added-n-requires : goal.added-n-requires
-added-n-requires c = (number_fits _ c.number_at-q.ensures, step_room c.requires c.loop-q.invariant c.next_param-a.ensures c.if-a.true c.if-a-2.true c.number_at-q.ensures c.sought-m.ensures c.is_again-again.ensures c.type_behind.ensures (omega (arith, c.next_param-a.type_inv)))
+added-n-requires c = (number_fits _ c.number_at-q.ensures, step_room c.requires c.loop-a.invariant c.next_param.ensures (c.in-Ok-Some.is ∙ ap Ok c.in-Ok-Some.field-0-is) c.number_at-q.ensures c.sought-m.ensures c.is_again.ensures c.type_behind.ensures (let t = rw (c.in-Ok-Some.is ∙ ap Ok c.in-Ok-Some.field-0-is) at c.next_param.type_inv in omega (arith, t)))
 
-pub loop-q-smaller : goal.loop-q-smaller
-loop-q-smaller c = param_less c.next_param-a.ensures c.if-a.true c.if-a-2.true
+pub loop-a-smaller : goal.loop-a-smaller
+loop-a-smaller c = param_less c.next_param.ensures (c.in-Ok-Some.is ∙ ap Ok c.in-Ok-Some.field-0-is)
 
-pub loop-q-preserved : goal.loop-q-preserved
-loop-q-preserved c = step_more c.requires c.loop-q.invariant c.next_param-a.ensures c.if-a.true c.if-a-2.true c.number_at-q.ensures c.sought-m.ensures c.is_again-again.ensures c.type_behind.ensures c.if-again.false c.in-Type.is c.added-n.ensures
+pub loop-a-preserved : goal.loop-a-preserved
+loop-a-preserved c = step_more c.requires c.loop-a.invariant c.next_param.ensures (c.in-Ok-Some.is ∙ ap Ok c.in-Ok-Some.field-0-is) c.number_at-q.ensures c.sought-m.ensures c.is_again.ensures c.type_behind.ensures c.if-is_again.false c.in-Some.is c.added-n.ensures
 
-pub returns-else-a-2 : goal.returns-else-a-2
-returns-else-a-2 c = step_fault c.requires c.loop-q.invariant c.next_param-a.ensures c.if-a.true c.if-a-2.false c.ended.ensures
-
-pub returns-else-a : goal.returns-else-a
-returns-else-a c = step_over c.requires c.loop-q.invariant c.next_param-a.ensures c.if-a.false c.ended-else-a.ensures
+pub returns : goal.returns
+returns c = elim c.match-next_param.branch [ in_default w ↦ let e : w.in_default.field-0 ≡ None = search rules in step_over c.requires c.loop-a.invariant c.next_param.ensures (w.in_default.is ∙ ap Ok e) c.ended.ensures | in_default-2 w ↦ step_fault c.requires c.loop-a.invariant c.next_param.ensures w.in_default.is c.ended.ensures ]

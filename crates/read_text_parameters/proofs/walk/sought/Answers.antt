@@ -1,7 +1,6 @@
 -- `read_text_parameters::sought` meets its contract.
 use mathlib.Core.Path.{refl}
 use Rattle.read_text_parameters.specs.laws.Judging.{sought_now, sought_not}
-use borrow.Author.Rules.{rules}
 use Rattle.read_text_parameters.proofs.walk.sought.Goals as goal
 
 pub returns-then-k-eq-FEW : goal.returns-then-k-eq-FEW

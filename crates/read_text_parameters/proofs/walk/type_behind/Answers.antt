@@ -2,7 +2,6 @@
 use Rattle.read_text_parameters.specs.laws.Judging.{behind_value, behind_fit, behind_unfit}
 use Rattle.read_text_line.specs.Decoded.{values_in, params_in}
 use Rattle.read_text_parameters.specs.Walking.{stated_by}
-use borrow.Author.Rules.{rules}
 use Rattle.read_text_parameters.proofs.walk.type_behind.Goals as goal
 
 pub returns-then-q-eq-VALUE : goal.returns-then-q-eq-VALUE

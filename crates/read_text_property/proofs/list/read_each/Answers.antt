@@ -1,5 +1,4 @@
 -- `read_text_property::list::read_each` meets its contract.
-use borrow.Author.Rules.{rules}
 use Rattle.schema.specs.Numbers.{type_at}
 use Rattle.values.specs.laws.ValueAt.{good_yes, good_no, value_there}
 use Rattle.read_text_property.specs.laws.Listed.{each_gone}
@@ -13,4 +12,4 @@ pub returns-in_default : goal.returns-in_default
 returns-in_default c = values_no c.args.t (each_gone (type_at c.args.t) c.args.mode c.args.s.now c.args.at c.requires c.if-at-s.false (good_no c.args.t (value_there _ _ _ _ _ c.read_value.ensures (λ h. c.requires)) c.in_default.is))
 
 pub returns : goal.returns
-returns c = values_yes c.args.t (each_gone (type_at c.args.t) c.args.mode c.args.s.now c.args.at c.requires c.if-at-s.false (good_yes c.args.t (value_there _ _ _ _ _ c.read_value.ensures (λ h. c.requires)) c.in-Good.is))
+returns c = values_yes c.args.t (each_gone (type_at c.args.t) c.args.mode c.args.s.now c.args.at c.requires c.if-at-s.false (good_yes c.args.t (value_there _ _ _ _ _ c.read_value.ensures (λ h. c.requires)) c.in-Some.is))

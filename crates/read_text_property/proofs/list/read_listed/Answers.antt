@@ -1,5 +1,4 @@
 -- `read_text_property::list::read_listed` meets its contract.
-use borrow.Author.Rules.{rules}
 use mathlib.Core.Path.{refl}
 use Rattle.read_text_property.specs.laws.Listed.{listed_text, listed_other}
 use Rattle.read_text_property.specs.laws.ValuesAt.{values_as}

@@ -1,12 +1,7 @@
 -- `read_text_property::list::read_pieces` meets its contract.
-use Prim.Native.Nat.{◌-◌}
-use lib.ListN.{length}
-use borrow.Author.Rules.{rules}
 use mathlib.Core.Path.{sym}
-use Rattle.schema.specs.Numbers.{type_at}
-use Rattle.recur.specs.laws.PieceLaws.{Left, left_start, pieces_less, cut_count}
+use Rattle.recur.specs.laws.PieceLaws.{left_start, pieces_less, cut_count}
 use Rattle.values.specs.laws.ValueAt.{good_yes, good_no, value_there}
-use Rattle.read_text_property.specs.Listed.{each_value}
 use Rattle.read_text_property.specs.laws.Listed.{each_bad, each_last, each_more}
 use Rattle.read_text_property.specs.laws.ValuesAt.{values_yes, values_no}
 use Rattle.read_text_property.proofs.list.read_pieces.Goals as goal
@@ -23,11 +18,11 @@ slice_bounds-read_value-end c = cut_count c.byte_end-e.ensures
 pub returns-in_default : goal.returns-in_default
 returns-in_default c = values_no c.args.t (each_bad _ c.loop-v.invariant c.byte_end-e.ensures (sym (good_no c.args.t (value_there _ _ _ _ _ c.read_value.ensures (λ h. c.loop-v.invariant.inside.cut)) c.in_default.is)))
 
-pub returns-then-u-eq-END : goal.returns-then-u-eq-END
-returns-then-u-eq-END c = values_yes c.args.t (each_last _ c.loop-v.invariant c.byte_end-e.ensures c.unit-n.ensures (sym (good_yes c.args.t (value_there _ _ _ _ _ c.read_value.ensures (λ h. c.loop-v.invariant.inside.cut)) c.in-Good.is)) c.if-u-eq-END.true)
+pub returns-then-n-eq-END : goal.returns-then-n-eq-END
+returns-then-n-eq-END c = values_yes c.args.t (each_last _ c.loop-v.invariant c.byte_end-e.ensures c.unit-n.ensures (sym (good_yes c.args.t (value_there _ _ _ _ _ c.read_value.ensures (λ h. c.loop-v.invariant.inside.cut)) c.in-Some.is)) c.if-n-eq-END.true)
 
 pub loop-v-smaller : goal.loop-v-smaller
-loop-v-smaller c = pieces_less c.byte_end-e.ensures c.unit-n.ensures c.if-u-eq-END.false
+loop-v-smaller c = pieces_less c.byte_end-e.ensures c.unit-n.ensures c.if-n-eq-END.false
 
 pub loop-v-preserved : goal.loop-v-preserved
-loop-v-preserved c = each_more _ c.loop-v.invariant c.byte_end-e.ensures c.unit-n.ensures (sym (good_yes c.args.t (value_there _ _ _ _ _ c.read_value.ensures (λ h. c.loop-v.invariant.inside.cut)) c.in-Good.is)) c.if-u-eq-END.false
+loop-v-preserved c = each_more _ c.loop-v.invariant c.byte_end-e.ensures c.unit-n.ensures (sym (good_yes c.args.t (value_there _ _ _ _ _ c.read_value.ensures (λ h. c.loop-v.invariant.inside.cut)) c.in-Some.is)) c.if-n-eq-END.false

@@ -1,5 +1,4 @@
 -- `read_text_property::own::read_chosen` meets its contract.
-use borrow.Author.Rules.{rules}
 use Rattle.octets.specs.Class.{upper}
 use Rattle.source.specs.Source.{rest}
 use Rattle.schema.specs.Sets.{words_at}
@@ -12,10 +11,10 @@ pub returns-in_default : goal.returns-in_default
 returns-in_default c = values_no c.args.c.value_type (chosen_word _ _ _ c.has_words-closed.ensures c.if-closed.true (word_no (words_at c.args.c.component c.args.c.row.number) (upper (rest c.args.mode c.args.s.now c.args.at)) c.read_word_of.ensures c.in_default.is))
 
 pub returns-then-closed : goal.returns-then-closed
-returns-then-closed c = values_yes c.args.c.value_type (chosen_word _ _ _ c.has_words-closed.ensures c.if-closed.true (word_yes (words_at c.args.c.component c.args.c.row.number) (upper (rest c.args.mode c.args.s.now c.args.at)) c.read_word_of.ensures c.in-At.is))
+returns-then-closed c = values_yes c.args.c.value_type (chosen_word _ _ _ c.has_words-closed.ensures c.if-closed.true (word_yes (words_at c.args.c.component c.args.c.row.number) (upper (rest c.args.mode c.args.s.now c.args.at)) c.read_word_of.ensures c.in-Some.is))
 
 pub returns-in_default-read_value : goal.returns-in_default-read_value
 returns-in_default-read_value c = values_no c.args.c.value_type (chosen_value _ _ _ c.has_words-closed.ensures c.if-closed.false (good_no c.args.c.value_type (value_there _ _ _ _ _ c.read_value.ensures (λ h. c.requires)) c.in_default-read_value.is))
 
 pub returns : goal.returns
-returns c = values_yes c.args.c.value_type (chosen_value _ _ _ c.has_words-closed.ensures c.if-closed.false (good_yes c.args.c.value_type (value_there _ _ _ _ _ c.read_value.ensures (λ h. c.requires)) c.in-Good.is))
+returns c = values_yes c.args.c.value_type (chosen_value _ _ _ c.has_words-closed.ensures c.if-closed.false (good_yes c.args.c.value_type (value_there _ _ _ _ _ c.read_value.ensures (λ h. c.requires)) c.in-Some-read_value.is))

@@ -1,5 +1,4 @@
 -- `read_text_property::own::read_geo_value` meets its contract.
-use borrow.Author.Rules.{rules}
 use Rattle.read_text_property.specs.laws.ValuesAt.{values_yes, values_no, geo_yes, geo_no}
 use Rattle.read_text_property.proofs.own.read_geo_value.Goals as goal
 
@@ -7,4 +6,4 @@ pub returns-in_default : goal.returns-in_default
 returns-in_default c = values_no c.args.t (geo_no c.read_geo.ensures c.in_default.is)
 
 pub returns : goal.returns
-returns c = values_yes c.args.t (geo_yes c.read_geo.ensures c.in-At.is)
+returns c = values_yes c.args.t (geo_yes c.read_geo.ensures c.in-Some.is)

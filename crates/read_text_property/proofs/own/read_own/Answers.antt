@@ -1,5 +1,4 @@
 -- `read_text_property::own::read_own` meets its contract.
-use borrow.Author.Rules.{rules}
 use borrow.Author.Tests.{eq-eqb, ne_eqb}
 use Rattle.read_text_property.specs.laws.ValuesAt.{own_take, own_skip}
 use Rattle.read_text_property.proofs.own.read_own.Goals as goal

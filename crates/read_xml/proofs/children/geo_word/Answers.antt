@@ -2,17 +2,11 @@
 use Rattle.read_xml.specs.laws.Turning.{counting}
 use Rattle.read_xml.proofs.children.geo_word.Goals as goal
 
-pub is_word-latitude-requires : goal.is_word-latitude-requires
-is_word-latitude-requires c = search counting
+pub returns-then-is_word : goal.returns-then-is_word
+returns-then-is_word c = search counting
 
-pub returns-then-latitude : goal.returns-then-latitude
-returns-then-latitude c = search counting
+pub returns-then-is_word-2 : goal.returns-then-is_word-2
+returns-then-is_word-2 c = search counting
 
-pub is_word-longitude-requires : goal.is_word-longitude-requires
-is_word-longitude-requires c = search counting
-
-pub returns-then-longitude : goal.returns-then-longitude
-returns-then-longitude c = search counting
-
-pub returns : goal.returns
-returns c = search counting
+pub returns-else-is_word-2 : goal.returns-else-is_word-2
+returns-else-is_word-2 c = search counting

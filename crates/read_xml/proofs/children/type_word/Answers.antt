@@ -2,9 +2,6 @@
 use Rattle.read_xml.specs.laws.Turning.{counting}
 use Rattle.read_xml.proofs.children.type_word.Goals as goal
 
-pub find_word-t-requires : goal.find_word-t-requires
-find_word-t-requires c = search counting
-
 pub overflow_add-result : goal.overflow_add-result
 overflow_add-result c = search counting
 

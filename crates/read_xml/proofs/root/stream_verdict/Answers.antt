@@ -1,71 +1,29 @@
--- `read_xml::stream_verdict` meets its contract.
-use Prim.Native.Nat.{◌-◌}
-use lib.ListN.{length}
-use Rattle.read_xml.specs.laws.Roots.{streaming, Streaming}
+-- `read_xml::root::stream_verdict` meets its contract.
+use Rattle.read_xml.specs.laws.Roots.{streaming}
+use Rattle.read_xml.specs.laws.Roots.{stream_good, stream_bad}
+use Rattle.read_xml_nodes.specs.laws.Judging.{passed_on}
 use Rattle.read_xml.proofs.root.stream_verdict.Goals as goal
-
-pub loop-calendar-init : goal.loop-calendar-init
-loop-calendar-init c = search streaming
-
-pub next_node-n-requires : goal.next_node-n-requires
-next_node-n-requires c = search streaming
-
-pub enum_told-1 : goal.enum_told-1
-enum_told-1 c = search streaming
 
 pub returns-then-any : goal.returns-then-any
 returns-then-any c = search streaming
 
-pub returns-in-None : goal.returns-in-None
-returns-in-None c = search streaming
+pub returns-else-any : goal.returns-else-any
+returns-else-any c = search streaming
 
-pub enum_told-in-Element : goal.enum_told-in-Element
-enum_told-in-Element c = search streaming
+pub nodes-preserved : goal.nodes-preserved
+nodes-preserved c = search streaming
 
-pub is_calendar-calendar-requires : goal.is_calendar-calendar-requires
-is_calendar-calendar-requires c = search streaming
+pub returns-else-is_calendar : goal.returns-else-is_calendar
+returns-else-is_calendar c = search streaming
 
-pub component_verdict-j-requires : goal.component_verdict-j-requires
-component_verdict-j-requires c = search streaming
-
-pub enum_told-in-Fine : goal.enum_told-in-Fine
-enum_told-in-Fine c = search streaming
-
-pub loop-calendar-smaller-in-Fine : goal.loop-calendar-smaller-in-Fine
-loop-calendar-smaller-in-Fine c = search streaming
-
-pub loop-calendar-preserved-in-Fine : goal.loop-calendar-preserved-in-Fine
-loop-calendar-preserved-in-Fine c = search streaming
-
-pub enum_known-j : goal.enum_known-j
-enum_known-j c = search streaming
-
-pub returns-in-Refused : goal.returns-in-Refused
-returns-in-Refused c = search streaming
-
-pub no_component-requires : goal.no_component-requires
-no_component-requires c = search streaming
-
-pub returns-else-calendar : goal.returns-else-calendar
-returns-else-calendar c = search streaming
-
-pub enum_told-in-Literal : goal.enum_told-in-Literal
-enum_told-in-Literal c = search streaming
-
-pub is_space-space-requires : goal.is_space-space-requires
-is_space-space-requires c = search streaming
-
-pub loop-calendar-smaller : goal.loop-calendar-smaller
-loop-calendar-smaller c = search streaming
-
-pub loop-calendar-preserved : goal.loop-calendar-preserved
-loop-calendar-preserved c = search streaming
-
-pub returns-else-space : goal.returns-else-space
-returns-else-space c = search streaming
-
-pub enum_told-in-Referred : goal.enum_told-in-Referred
-enum_told-in-Referred c = search streaming
+pub returns-else-is_space : goal.returns-else-is_space
+returns-else-is_space c = search streaming
 
 pub returns-in-Referred : goal.returns-in-Referred
 returns-in-Referred c = search streaming
+
+pub returns-in_err-component_verdict-in-Element : goal.returns-in_err-component_verdict-in-Element
+returns-in_err-component_verdict-in-Element c = rw (passed_on _ _ c.from_residual.ensures.1) (stream_bad _ c.nodes.invariant c.next_node-n.ensures c.in-Element.is c.is_calendar.ensures c.if-is_calendar.true _ c.component_verdict.ensures c.in_err-component_verdict-in-Element.was)
+
+pub nodes-preserved-then-is_calendar : goal.nodes-preserved-then-is_calendar
+nodes-preserved-then-is_calendar c = stream_good _ c.nodes.invariant c.next_node-n.ensures c.in-Element.is c.is_calendar.ensures c.if-is_calendar.true _ c.component_verdict.ensures c.in_ok-component_verdict-in-Element.was

@@ -1,40 +1,23 @@
 -- `read_xml::component_verdict` and `read_xml::components_verdict`, which call each other, meet their contracts.
-use native.Mathlib.Omega.{arith}
-use Rattle.read_xml.specs.laws.Subcomponents.{fall_in, wholes, begun_left, among}
+use Rattle.std.proofs.Common.{ap, ◌∙◌, Ok}
+use Rattle.read_xml.specs.laws.Subcomponents.{among, whole_fails, whole_behind, among_fine, among_bad, among_good}
+use Rattle.read_xml_nodes.specs.laws.Judging.{passed_on}
 use Rattle.read_xml.proofs.subcomponents.+component_verdict_components_verdict.Goals as goal
 
-pub component_verdict-components_verdict-r-requires : goal.component_verdict-components_verdict-r-requires
-component_verdict-components_verdict-r-requires t c = (search (fall_in, wholes), search wholes)
+pub component_verdict-returns-in_err-inner : goal.component_verdict-returns-in_err-inner
+component_verdict-returns-in_err-inner t c = rw (passed_on _ _ c.from_residual-in_err-inner.ensures.1) (whole_fails _ _ c.head.ensures (c.in_ok-o.was ∙ ap Ok c.in-Some.is) c.method_inside-m.ensures c.components_verdict.ensures c.in_err-inner.was)
 
-pub component_verdict-returns-in-Holds : goal.component_verdict-returns-in-Holds
-component_verdict-returns-in-Holds t c = search wholes
+pub component_verdict-returns : goal.component_verdict-returns
+component_verdict-returns t c = whole_behind _ _ c.head.ensures (c.in_ok-o.was ∙ ap Ok c.in-Some.is) c.method_inside-m.ensures c.components_verdict.ensures c.in_ok-inner.was c.behind.ensures
 
-pub component_verdict-returns-in-Fails : goal.component_verdict-returns-in-Fails
-component_verdict-returns-in-Fails t c = search wholes
+pub components_verdict-nodes-init : goal.components_verdict-nodes-init
+components_verdict-nodes-init t c = search among
 
-pub components_verdict-loop-j-init : goal.components_verdict-loop-j-init
-components_verdict-loop-j-init t c = search among
+pub components_verdict-returns-in-Done : goal.components_verdict-returns-in-Done
+components_verdict-returns-in-Done t c = among_fine _ c.nodes.invariant c.sub_at.ensures (c.in_ok-sub_at.was ∙ ap Ok c.in-Done.is)
 
-pub components_verdict-returns-in-Fine : goal.components_verdict-returns-in-Fine
-components_verdict-returns-in-Fine t c = search among
+pub components_verdict-returns-in_err-component_verdict-in-Begins : goal.components_verdict-returns-in_err-component_verdict-in-Begins
+components_verdict-returns-in_err-component_verdict-in-Begins t c = rw (passed_on _ _ c.from_residual-in_err-component_verdict-in-Begins.ensures.1) (among_bad _ c.nodes.invariant c.sub_at.ensures (c.in_ok-sub_at.was ∙ ap Ok c.in-Begins.is) c.component_verdict.ensures c.in_err-component_verdict-in-Begins.was)
 
-pub components_verdict-returns-in-Refused : goal.components_verdict-returns-in-Refused
-components_verdict-returns-in-Refused t c = search among
-
-pub components_verdict-loop-j-smaller-in-Past : goal.components_verdict-loop-j-smaller-in-Past
-components_verdict-loop-j-smaller-in-Past t c = search among
-
-pub components_verdict-loop-j-preserved-in-Past : goal.components_verdict-loop-j-preserved-in-Past
-components_verdict-loop-j-preserved-in-Past t c = search among
-
-pub components_verdict-component_verdict-requires : goal.components_verdict-component_verdict-requires
-components_verdict-component_verdict-requires t c = (omega (arith, begun_left _ c.loop-j.invariant c.sub_at-t.ensures c.in-Begins.is, c.decreases), search among)
-
-pub components_verdict-loop-j-smaller : goal.components_verdict-loop-j-smaller
-components_verdict-loop-j-smaller t c = search among
-
-pub components_verdict-loop-j-preserved : goal.components_verdict-loop-j-preserved
-components_verdict-loop-j-preserved t c = search among
-
-pub components_verdict-returns-in-Refused-component_verdict : goal.components_verdict-returns-in-Refused-component_verdict
-components_verdict-returns-in-Refused-component_verdict t c = search among
+pub components_verdict-nodes-preserved : goal.components_verdict-nodes-preserved
+components_verdict-nodes-preserved t c = among_good _ c.nodes.invariant c.sub_at.ensures (c.in_ok-sub_at.was ∙ ap Ok c.in-Begins.is) c.component_verdict.ensures c.in_ok-component_verdict-in-Begins.was

@@ -10,8 +10,8 @@ decreases-component_verdict l = 2 * l.left + 1
 abbrev pub decreases-components_verdict : goal.decreases-components_verdict
 decreases-components_verdict l = 2 * l.left
 
-abbrev pub invariant-components_verdict-loop-j : goal.invariant-components_verdict-loop-j
-invariant-components_verdict-loop-j l = Among l.edition l.k l.left l.method l.s l.inside l.e l.at l.any
+abbrev pub invariant-components_verdict-nodes : goal.invariant-components_verdict-nodes
+invariant-components_verdict-nodes l = Among l.edition l.k l.left l.method l.s l.inside l.e l.at l.any
 
-abbrev pub decreases-components_verdict-loop-j : goal.decreases-components_verdict-loop-j
-decreases-components_verdict-loop-j l = length l.s - l.at
+abbrev pub decreases-components_verdict-nodes : goal.decreases-components_verdict-nodes
+decreases-components_verdict-nodes l = length l.s - l.at

@@ -2,11 +2,8 @@
 use Rattle.read_xml.specs.laws.Subcomponents.{handing}
 use Rattle.read_xml.proofs.subcomponents.method_inside.Goals as goal
 
-pub method_for-requires : goal.method_for-requires
-method_for-requires c = search handing
-
 pub returns-then-had : goal.returns-then-had
 returns-then-had c = search handing
 
-pub returns : goal.returns
-returns c = search handing
+pub returns-else-had : goal.returns-else-had
+returns-else-had c = search handing

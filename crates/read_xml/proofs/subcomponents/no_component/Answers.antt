@@ -2,11 +2,8 @@
 use Rattle.read_xml.specs.laws.Subcomponents.{refusing}
 use Rattle.read_xml.proofs.subcomponents.no_component.Goals as goal
 
-pub bad_component-bad-requires : goal.bad_component-bad-requires
-bad_component-bad-requires c = search refusing
+pub returns-then-bad_component : goal.returns-then-bad_component
+returns-then-bad_component c = search refusing
 
-pub returns-then-bad : goal.returns-then-bad
-returns-then-bad c = search refusing
-
-pub returns : goal.returns
-returns c = search refusing
+pub returns-else-bad_component : goal.returns-else-bad_component
+returns-else-bad_component c = search refusing

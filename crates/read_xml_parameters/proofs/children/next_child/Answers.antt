@@ -13,8 +13,8 @@ next_node-n-requires c = search looking
 pub enum_told-1 : goal.enum_told-1
 enum_told-1 c = search looking
 
-pub returns-in-None : goal.returns-in-None
-returns-in-None c = search looking
+pub returns-in-Absent : goal.returns-in-Absent
+returns-in-Absent c = search looking
 
 pub enum_told-in-Element : goal.enum_told-in-Element
 enum_told-in-Element c = search looking

@@ -15,8 +15,8 @@ use Rattle.read_xml_parameters.specs.laws.Told.{Told, telling}
 use borrow.Author.Rules.{rules}
 use Rattle.read_xml_parameters.proofs.verdict.parameters_verdict.Given as goal
 
-abbrev pub invariant-loop-a : goal.invariant-loop-a
-invariant-loop-a l = Told l.edition l.row l.t l.s l.inside l.c l.i × (l.i ≤ l.c) × (distinct (first_names (nodes_at l.s l.inside) l.fresh) ≡ true)
+abbrev pub invariant-nodes : goal.invariant-nodes
+invariant-nodes l = Told l.edition l.row l.t l.s l.inside l.c l.i × (l.i ≤ l.c) × (distinct (first_names (nodes_at l.s l.inside) l.fresh) ≡ true)
 
-abbrev pub decreases-loop-a : goal.decreases-loop-a
-decreases-loop-a l = length l.s - l.c
+abbrev pub decreases-nodes : goal.decreases-nodes
+decreases-nodes l = length l.s - l.c

@@ -3,23 +3,11 @@ use Rattle.read_xml_parameters.specs.laws.Written.{truth_put, truth_none}
 use Rattle.sink.specs.laws.Sink.{writing}
 use Rattle.read_xml_parameters.proofs.written.put_truth.Goals as goal
 
-pub read_boolean-r-requires : goal.read_boolean-r-requires
-read_boolean-r-requires c = search writing
-
-pub enum_known-r : goal.enum_known-r
-enum_known-r c = search writing
-
-pub put_boolean-requires : goal.put_boolean-requires
-put_boolean-requires c = search writing
-
-pub enum_told-1 : goal.enum_told-1
-enum_told-1 c = search writing
-
 pub shape_of-out : goal.shape_of-out
 shape_of-out c = search writing
 
-pub returns-in-Truth : goal.returns-in-Truth
-returns-in-Truth c = search (truth_put, writing)
+pub returns-in-Some : goal.returns-in-Some
+returns-in-Some c = search (truth_put, writing)
 
-pub returns-in-Bad : goal.returns-in-Bad
-returns-in-Bad c = search (truth_none, writing)
+pub returns-in-None : goal.returns-in-None
+returns-in-None c = search (truth_none, writing)

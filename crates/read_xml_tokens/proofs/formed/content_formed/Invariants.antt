@@ -1,10 +1,7 @@
 -- `read_xml_tokens::formed::content_formed` meets its contract.
 use Prim.Native.Nat.{◌-◌}
-use native.Mathlib.Omega.{arith}
 use lib.ListN.{length}
-use borrow.Author.Rules.{rules}
 use Rattle.read_xml_tokens.specs.Formed.{verdict_at, Ongoing}
-use Rattle.read_xml_tokens.specs.laws.Formed.{ongoing_start, over_fine, over_open}
 use Rattle.read_xml_tokens.proofs.formed.content_formed.Given as goal
 
 abbrev pub invariant-loop-at : goal.invariant-loop-at

@@ -1,7 +1,6 @@
 -- `read_xml_tokens::formed::depth_after` meets its contract.
 use mathlib.Core.Path.{refl, sym, ◌∙◌}
 use native.Mathlib.Omega.{arith}
-use borrow.Author.Rules.{rules}
 use Rattle.read_xml_tokens.specs.declared.TokenKind.TheVariants.{Start, Empty, End, Char, Reference}
 use Rattle.read_xml_tokens.specs.laws.Formed.{start_turn, start_stop, empty_turn, empty_stop, end_turn, end_stop, char_turn, char_stop, reference_turn, reference_stop, fault_stop, turn_stop, turn_open, turn_stay}
 use Rattle.read_xml_tokens.specs.laws.Open.{closes_some}

@@ -1,11 +1,10 @@
 -- `read_xml_tokens::formed::well_formed` meets its contract.
 use mathlib.Core.Path.{refl}
 use native.Mathlib.Omega.{arith}
-use borrow.Author.Rules.{rules}
-use Rattle.read_xml_tokens.specs.declared.TokenKind.TheVariants.{Start, Empty, End, Char, Reference}
-use Rattle.read_xml_tokens.specs.laws.Formed.{formed_start, formed_empty, formed_fault}
+use Rattle.read_xml_tokens.specs.declared.TokenKind.TheVariants.{Start, Empty}
+use Rattle.read_xml_tokens.specs.laws.Formed.{formed_start, formed_empty, root_faulty}
 use Rattle.read_xml_tokens.specs.laws.Open.{opened_one, opened_none}
-use Rattle.read_xml_tokens.specs.laws.MarksAt.{root_onward, root_other}
+use Rattle.read_xml_tokens.specs.laws.MarksAt.{root_onward}
 use Rattle.read_xml_tokens.proofs.formed.well_formed.Goals as goal
 
 pub content_formed-requires : goal.content_formed-requires
@@ -21,13 +20,4 @@ pub returns-in-Empty : goal.returns-in-Empty
 returns-in-Empty c = formed_empty c.root_at-t.ensures _ _ 0 c.content_formed-in-Empty.ensures c.in-Empty.is (opened_none _ _ _ _ refl)
 
 pub returns-in-End : goal.returns-in-End
-returns-in-End c = root_other c.root_at-t.ensures End c.in-End.is refl
-
-pub returns-in-Char : goal.returns-in-Char
-returns-in-Char c = root_other c.root_at-t.ensures Char c.in-Char.is refl
-
-pub returns-in-Reference : goal.returns-in-Reference
-returns-in-Reference c = root_other c.root_at-t.ensures Reference c.in-Reference.is refl
-
-pub returns-in-Fault : goal.returns-in-Fault
-returns-in-Fault c = formed_fault c.root_at-t.ensures c.in-Fault.is
+returns-in-End c = rw c.at.ensures (root_faulty c.root_at-t.ensures c.in-End.is)

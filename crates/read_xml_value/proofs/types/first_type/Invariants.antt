@@ -7,8 +7,8 @@ use Rattle.read_xml_nodes.specs.laws.Walks.{Passing}
 use Rattle.read_xml_value.specs.laws.ElementTypes.{firsts}
 use Rattle.read_xml_value.proofs.types.first_type.Given as goal
 
-abbrev pub invariant-loop-m : goal.invariant-loop-m
-invariant-loop-m l = Passing (first_type (type_at l.t)) l.s l.inside l.c
+abbrev pub invariant-nodes : goal.invariant-nodes
+invariant-nodes l = Passing (first_type (type_at l.t)) l.s l.inside l.c
 
-abbrev pub decreases-loop-m : goal.decreases-loop-m
-decreases-loop-m l = length l.s - l.c
+abbrev pub decreases-nodes : goal.decreases-nodes
+decreases-nodes l = length l.s - l.c

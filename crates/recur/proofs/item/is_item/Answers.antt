@@ -2,7 +2,6 @@
 use Rattle.source.specs.Source.{rest}
 use Rattle.calendar.specs.Calendar.{format_of}
 use Rattle.recur.specs.laws.Fits.{item_beyond}
-use borrow.Author.Rules.{rules}
 use Rattle.recur.proofs.item.is_item.Goals as goal
 
 pub returns-then-p-lt-BYSECOND : goal.returns-then-p-lt-BYSECOND

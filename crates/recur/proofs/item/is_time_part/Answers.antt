@@ -4,7 +4,6 @@ use Rattle.calendar.specs.Calendar.{format_of}
 use Rattle.recur.specs.laws.Fits.{item_at}
 use native.Mathlib.Omega.{arith}
 use mathlib.Core.Path.{refl}
-use borrow.Author.Rules.{rules}
 use Rattle.recur.proofs.item.is_time_part.Goals as goal
 
 pub returns-then-p-eq-BYSECOND : goal.returns-then-p-eq-BYSECOND

@@ -1,10 +1,9 @@
--- `recur::read_item` meets its contract.
+-- `recur::item::read_item` meets its contract.
 use Rattle.recur.specs.laws.Fits.{item_good, item_bad}
-use borrow.Author.Rules.{rules}
 use Rattle.recur.proofs.item.read_item.Goals as goal
 
-pub returns-then-fits : goal.returns-then-fits
-returns-then-fits c = item_good _ c.is_item-fits.ensures c.if-fits.true
+pub returns-then-is_item : goal.returns-then-is_item
+returns-then-is_item c = item_good _ c.is_item.ensures c.if-is_item.true
 
 pub returns : goal.returns
-returns c = item_bad c.args.p c.is_item-fits.ensures c.if-fits.false
+returns c = item_bad c.args.p c.is_item.ensures c.if-is_item.false

@@ -1,8 +1,8 @@
--- `recur::is_numeral` meets its contract.
+-- `recur::number::is_numeral` meets its contract.
+use Rattle.std.specs.Prelude.{is_some}
+use mathlib.Core.Path.{sym, ap, ◌∙◌}
 use Rattle.recur.specs.laws.Numeral.{numeral_told}
-use native.Mathlib.Omega.{arith}
-use borrow.Author.Rules.{rules}
 use Rattle.recur.proofs.number.is_numeral.Goals as goal
 
 pub returns : goal.returns
-returns c = numeral_told _ _ _ (omega arith) c.numeral_of-n.ensures
+returns c = c.is_some.ensures ∙ ap is_some (sym c.numeral_of.ensures) ∙ numeral_told _ _ _

@@ -1,9 +1,7 @@
 -- `recur::is_short` meets its contract.
-use Rattle.recur.specs.laws.Numeral.{Passed, passed_start, passed_end, passed_long, passed_more, passed_less}
-use native.Mathlib.Omega.{arith}
+use Rattle.recur.specs.laws.Numeral.{Passed}
 use Prim.Native.Nat.{◌-◌, ◌*◌}
 use lib.ListN.{length}
-use borrow.Author.Rules.{rules}
 use Rattle.recur.proofs.number.is_short.Given as goal
 
 abbrev pub invariant-loop-t : goal.invariant-loop-t

@@ -1,5 +1,4 @@
 -- `recur::is_signed` meets its contract.
-use borrow.Author.Rules.{rules}
 use Rattle.recur.proofs.number.is_signed.Goals as goal
 
 pub returns : goal.returns

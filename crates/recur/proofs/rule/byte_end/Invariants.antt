@@ -1,9 +1,7 @@
 -- `recur::byte_end` meets its contract.
-use Rattle.recur.specs.laws.PieceLaws.{Ending, ending_start, ending_stop, ending_here, ending_more, step_less}
-use native.Mathlib.Omega.{arith}
+use Rattle.recur.specs.laws.PieceLaws.{Ending}
 use lib.ListN.{length}
 use Prim.Native.Nat.{◌-◌}
-use borrow.Author.Rules.{rules}
 use Rattle.recur.proofs.rule.byte_end.Given as goal
 
 abbrev pub invariant-loop-t : goal.invariant-loop-t

@@ -1,11 +1,8 @@
--- `recur::find_parts` meets its contract.
-use Prim.Native.Nat.{◌-◌}
+-- `recur::rule::find_parts` meets its contract.
 use native.Mathlib.Omega.{arith}
-use lib.ListN.{length}
-use Rattle.octets.specs.laws.Pick.{flag_yes, flag_no}
-use Rattle.recur.specs.laws.PieceLaws.{pieces_less, cut_count, cut_inside}
-use Rattle.recur.specs.laws.NotedLaws.{Walked, walk_start, walk_bad, walk_again, walk_place, walk_last, walk_more}
-use borrow.Author.Rules.{rules}
+use mathlib.Core.Path.{sym, ◌∙◌}
+use Rattle.recur.specs.laws.PieceLaws.{cut_count, cut_inside, pieces_less}
+use Rattle.recur.specs.laws.NotedLaws.{walk_start, walk_bad, walk_again, walk_place, walk_whole, walk_short, walk_more}
 use Rattle.recur.proofs.rule.find_parts.Goals as goal
 
 pub loop-begins-init : goal.loop-begins-init
@@ -23,35 +20,35 @@ part_place-p-requires c = cut_inside c.byte_end-e.ensures
 pub slice_bounds-is_part-end : goal.slice_bounds-is_part-end
 slice_bounds-is_part-end c = cut_count c.byte_end-e.ensures
 
-pub is_part-fits-requires : goal.is_part-fits-requires
-is_part-fits-requires c = (c.part_place-p.ensures, cut_inside c.byte_end-e.ensures)
+pub is_part-requires : goal.is_part-requires
+is_part-requires c = (c.part_place-p.ensures, cut_inside c.byte_end-e.ensures)
 
-pub offset_bounds-begins-p : goal.offset_bounds-begins-p
-offset_bounds-begins-p c = let k = walk_place c.loop-begins.invariant c.byte_end-e.ensures c.part_place-p.ensures (flag_yes _ _ c.is_part-fits.ensures c.if-fits.true) in omega arith
+pub returns-then-not-is_part : goal.returns-then-not-is_part
+returns-then-not-is_part c = walk_bad c.loop-begins.invariant c.byte_end-e.ensures c.part_place-p.ensures (sym c.is_part.ensures ∙ c.if-not-is_part.true)
 
 pub bounds-begins-p : goal.bounds-begins-p
-bounds-begins-p c = walk_place c.loop-begins.invariant c.byte_end-e.ensures c.part_place-p.ensures (flag_yes _ _ c.is_part-fits.ensures c.if-fits.true)
+bounds-begins-p c = walk_place c.loop-begins.invariant c.byte_end-e.ensures c.part_place-p.ensures (sym c.is_part.ensures ∙ c.if-not-is_part.false)
 
-pub overflow_add-begins : goal.overflow_add-begins
-overflow_add-begins c = let k = c.loop-begins.invariant.inside.most in search rules
+pub returns-then-is_some : goal.returns-then-is_some
+returns-then-is_some c = walk_again c.loop-begins.invariant c.byte_end-e.ensures c.part_place-p.ensures (sym c.is_some.ensures ∙ c.if-is_some.true)
 
-pub offset_bounds-begins-p-then-begins-p-eq0 : goal.offset_bounds-begins-p-then-begins-p-eq0
-offset_bounds-begins-p-then-begins-p-eq0 c = let k = walk_place c.loop-begins.invariant c.byte_end-e.ensures c.part_place-p.ensures (flag_yes _ _ c.is_part-fits.ensures c.if-fits.true) in omega arith
+pub offset_bounds-begins-p : goal.offset_bounds-begins-p
+offset_bounds-begins-p c = let k = walk_place c.loop-begins.invariant c.byte_end-e.ensures c.part_place-p.ensures (sym c.is_part.ensures ∙ c.if-not-is_part.false) in omega arith
 
-pub bounds-begins-p-then-begins-p-eq0 : goal.bounds-begins-p-then-begins-p-eq0
-bounds-begins-p-then-begins-p-eq0 c = walk_place c.loop-begins.invariant c.byte_end-e.ensures c.part_place-p.ensures (flag_yes _ _ c.is_part-fits.ensures c.if-fits.true)
+pub offset_bounds-begins-p-in-loop-begins : goal.offset_bounds-begins-p-in-loop-begins
+offset_bounds-begins-p-in-loop-begins c = let k = walk_place c.loop-begins.invariant c.byte_end-e.ensures c.part_place-p.ensures (sym c.is_part.ensures ∙ c.if-not-is_part.false) in omega arith
 
-pub returns-then-u-eq-END : goal.returns-then-u-eq-END
-returns-then-u-eq-END c = walk_last c.loop-begins.invariant c.byte_end-e.ensures c.part_place-p.ensures (flag_yes _ _ c.is_part-fits.ensures c.if-fits.true) c.if-begins-p-eq0.true c.unit-n.ensures c.if-u-eq-END.true c.is_whole-good.ensures
+pub bounds-begins-p-in-loop-begins : goal.bounds-begins-p-in-loop-begins
+bounds-begins-p-in-loop-begins c = walk_place c.loop-begins.invariant c.byte_end-e.ensures c.part_place-p.ensures (sym c.is_part.ensures ∙ c.if-not-is_part.false)
+
+pub returns-then-is_whole : goal.returns-then-is_whole
+returns-then-is_whole c = walk_whole c.loop-begins.invariant c.byte_end-e.ensures c.part_place-p.ensures (sym c.is_part.ensures ∙ c.if-not-is_part.false) (sym c.is_some.ensures ∙ c.if-is_some.false) c.unit-n.ensures c.if-n-eq-END.true (sym c.is_whole.ensures ∙ c.if-is_whole.true)
+
+pub returns-then-n-eq-END : goal.returns-then-n-eq-END
+returns-then-n-eq-END c = walk_short c.loop-begins.invariant c.byte_end-e.ensures c.part_place-p.ensures (sym c.is_part.ensures ∙ c.if-not-is_part.false) (sym c.is_some.ensures ∙ c.if-is_some.false) c.unit-n.ensures c.if-n-eq-END.true (sym c.is_whole.ensures ∙ c.if-is_whole.false)
 
 pub loop-begins-smaller : goal.loop-begins-smaller
-loop-begins-smaller c = pieces_less c.byte_end-e.ensures c.unit-n.ensures c.if-u-eq-END.false
+loop-begins-smaller c = pieces_less c.byte_end-e.ensures c.unit-n.ensures c.if-n-eq-END.false
 
 pub loop-begins-preserved : goal.loop-begins-preserved
-loop-begins-preserved c = walk_more c.loop-begins.invariant c.byte_end-e.ensures c.part_place-p.ensures (flag_yes _ _ c.is_part-fits.ensures c.if-fits.true) c.if-begins-p-eq0.true c.unit-n.ensures c.if-u-eq-END.false
-
-pub returns-else-begins-p-eq0 : goal.returns-else-begins-p-eq0
-returns-else-begins-p-eq0 c = walk_again c.loop-begins.invariant c.byte_end-e.ensures c.part_place-p.ensures c.if-begins-p-eq0.false
-
-pub returns-else-fits : goal.returns-else-fits
-returns-else-fits c = walk_bad c.loop-begins.invariant c.byte_end-e.ensures c.part_place-p.ensures (flag_no _ _ c.is_part-fits.ensures c.if-fits.false)
+loop-begins-preserved c = walk_more c.loop-begins.invariant c.byte_end-e.ensures c.part_place-p.ensures (sym c.is_part.ensures ∙ c.if-not-is_part.false) (sym c.is_some.ensures ∙ c.if-is_some.false) c.unit-n.ensures c.if-n-eq-END.false

@@ -1,6 +1,5 @@
 -- `recur::is_list_part` meets its contract.
 use Rattle.recur.specs.laws.Whole.{listed_at, listed_beyond}
-use borrow.Author.Rules.{rules}
 use Rattle.recur.proofs.rule.is_list_part.Goals as goal
 
 pub returns-then-p-lt-KNOWN : goal.returns-then-p-lt-KNOWN

@@ -1,6 +1,5 @@
 -- `recur::rule::part_number` meets its contract.
 use mathlib.Core.Path.{refl}
-use borrow.Author.Rules.{rules}
 use Rattle.names.specs.Packing.{find}
 use Rattle.names.specs.laws.Packing.{by_packs, finding}
 use Rattle.recur.specs.Parts.{part_names}
@@ -8,21 +7,9 @@ use Rattle.recur.specs.Packs.{part_rows, part_rows2}
 use Rattle.recur.specs.laws.Whole.{names_packed}
 use Rattle.recur.proofs.rule.part_number.Goals as goal
 
-pub pack-w-requires : goal.pack-w-requires
-unfolding find
-pack-w-requires c = search rules
-
-pub part_1-requires : goal.part_1-requires
-unfolding find
-part_1-requires c = search rules
-
 pub returns-then-w-lt37548788525918789 : goal.returns-then-w-lt37548788525918789
 unfolding find
 returns-then-w-lt37548788525918789 c = by_packs _ part_rows part_rows2 part_names 14 names_packed refl c.pack-w.ensures (search finding depth 12)
-
-pub part_2-requires : goal.part_2-requires
-unfolding find
-part_2-requires c = search rules
 
 pub returns : goal.returns
 unfolding find

@@ -1,7 +1,6 @@
 -- `recur::rule::part_place` meets its contract.
 use Rattle.recur.specs.laws.PieceLaws.{cut_count}
 use Rattle.recur.specs.laws.Whole.{name_found}
-use borrow.Author.Rules.{rules}
 use Rattle.recur.proofs.rule.part_place.Goals as goal
 
 pub byte_end-e-requires : goal.byte_end-e-requires

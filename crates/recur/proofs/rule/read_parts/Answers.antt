@@ -1,12 +1,9 @@
--- `recur::read_parts` meets its contract.
+-- `recur::rule::read_parts` meets its contract.
 use Rattle.recur.specs.laws.NotedLaws.{parts_beyond}
 use Rattle.recur.proofs.rule.read_parts.Goals as goal
 
 pub returns-then-s-at : goal.returns-then-s-at
-returns-then-s-at c = parts_beyond _ _ _ _ c.requires c.if-s-at.true
+returns-then-s-at c = parts_beyond _ _ _ c.requires c.if-s-at.true
 
 pub find_parts-requires : goal.find_parts-requires
 find_parts-requires c = record { cut = c.requires; most = c.if-s-at.false }
-
-pub returns : goal.returns
-returns c = c.find_parts.ensures

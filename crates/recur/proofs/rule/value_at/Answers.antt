@@ -1,7 +1,6 @@
 -- `recur::value_at` meets its contract.
 use Rattle.recur.specs.laws.PieceLaws.{step_less}
 use Rattle.recur.specs.laws.Whole.{value_none, value_after}
-use borrow.Author.Rules.{rules}
 use Rattle.recur.proofs.rule.value_at.Goals as goal
 
 pub byte_end-e-requires : goal.byte_end-e-requires

@@ -1,25 +1,22 @@
 -- `recur::first_letter` meets its contract.
-use Rattle.recur.specs.laws.Fits.{Lettered, letter_end, letter_here, letter_later}
+use Rattle.recur.specs.laws.Fits.{letter_end, letter_here, letter_later}
 use Rattle.source.specs.laws.Facts.{byte_small}
-use Rattle.octets.specs.laws.Pick.{flag_yes, flag_no}
 use native.Mathlib.Omega.{arith}
 use mathlib.Core.Path.{refl}
-use Prim.Native.Nat.{◌-◌, ◌*◌}
-use lib.ListN.{length}
-use borrow.Author.Rules.{rules}
+use mathlib.Core.Path.{sym, ◌∙◌}
 use Rattle.recur.proofs.word.first_letter.Goals as goal
 
 pub loop-t-init : goal.loop-t-init
 loop-t-init c = record { left = refl }
 
-pub returns-then-u-eq-END : goal.returns-then-u-eq-END
-returns-then-u-eq-END c = letter_end c.loop-t.invariant c.unit-t.ensures c.if-u-eq-END.true
+pub returns-then-t-eq-END : goal.returns-then-t-eq-END
+returns-then-t-eq-END c = letter_end c.loop-t.invariant c.unit-t.ensures c.if-t-eq-END.true
 
-pub returns-then-a : goal.returns-then-a
-returns-then-a c = letter_here c.loop-t.invariant c.unit-t.ensures c.if-u-eq-END.false (flag_yes _ _ c.is_alpha-a.ensures c.if-a.true)
+pub returns-then-is_alpha : goal.returns-then-is_alpha
+returns-then-is_alpha c = letter_here c.loop-t.invariant c.unit-t.ensures c.if-t-eq-END.false (sym c.is_alpha.ensures ∙ c.if-is_alpha.true)
 
 pub loop-t-smaller : goal.loop-t-smaller
-loop-t-smaller c = omega (arith, byte_small c.unit-t.ensures c.if-u-eq-END.false)
+loop-t-smaller c = omega (arith, byte_small c.unit-t.ensures c.if-t-eq-END.false)
 
 pub loop-t-preserved : goal.loop-t-preserved
-loop-t-preserved c = letter_later c.loop-t.invariant c.unit-t.ensures c.if-u-eq-END.false (flag_no _ _ c.is_alpha-a.ensures c.if-a.false)
+loop-t-preserved c = letter_later c.loop-t.invariant c.unit-t.ensures c.if-t-eq-END.false (sym c.is_alpha.ensures ∙ c.if-is_alpha.false)

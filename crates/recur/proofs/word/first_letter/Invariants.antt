@@ -1,12 +1,7 @@
 -- `recur::first_letter` meets its contract.
-use Rattle.recur.specs.laws.Fits.{Lettered, letter_end, letter_here, letter_later}
-use Rattle.source.specs.laws.Facts.{byte_small}
-use Rattle.octets.specs.laws.Pick.{flag_yes, flag_no}
-use native.Mathlib.Omega.{arith}
-use mathlib.Core.Path.{refl}
+use Rattle.recur.specs.laws.Fits.{Lettered}
 use Prim.Native.Nat.{◌-◌, ◌*◌}
 use lib.ListN.{length}
-use borrow.Author.Rules.{rules}
 use Rattle.recur.proofs.word.first_letter.Given as goal
 
 abbrev pub invariant-loop-t : goal.invariant-loop-t

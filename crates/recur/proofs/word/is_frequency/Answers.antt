@@ -2,8 +2,7 @@
 use Rattle.source.specs.Source.{rest}
 use Rattle.recur.specs.laws.Fits.{word_found, frequencies_are}
 use Rattle.recur.specs.Parts.{frequencies}
-use borrow.Author.Rules.{rules}
 use Rattle.recur.proofs.word.is_frequency.Goals as goal
 
 pub returns : goal.returns
-returns c = word_found c.args.xcal (rest c.args.mode c.args.s.now c.args.at) frequencies frequencies_are c.find_word-n.ensures
+returns c = word_found c.args.xcal (rest c.args.mode c.args.s.now c.args.at) frequencies frequencies_are c.find_word.ensures

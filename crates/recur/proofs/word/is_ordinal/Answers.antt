@@ -1,7 +1,6 @@
 -- `recur::is_ordinal` meets its contract.
 use Rattle.numbers.specs.laws.Numeral.{fronts_byte, fronts_end}
 use Rattle.octets.specs.laws.Pick.{or_take, or_skip}
-use borrow.Author.Rules.{rules}
 use Rattle.recur.proofs.word.is_ordinal.Goals as goal
 
 pub returns-then-t-eq-END : goal.returns-then-t-eq-END

@@ -1,10 +1,7 @@
--- `recur::is_weekdaynum` meets its contract.
-use Rattle.octets.specs.laws.Pick.{flag_yes, flag_no, and_go, and_stop}
-use borrow.Author.Rules.{rules}
+-- `recur::word::is_weekdaynum` meets its contract.
+use mathlib.Core.Path.{sym, ◌∙◌}
+use Rattle.octets.specs.laws.Pick.{and_go}
 use Rattle.recur.proofs.word.is_weekdaynum.Goals as goal
 
-pub returns-then-o : goal.returns-then-o
-returns-then-o c = and_go _ _ _ (flag_yes _ _ c.is_ordinal-o.ensures c.if-o.true) (rw c.first_letter-c.ensures c.is_weekday.ensures)
-
-pub returns : goal.returns
-returns c = and_stop _ _ (flag_no _ _ c.is_ordinal-o.ensures c.if-o.false)
+pub returns-then-is_ordinal : goal.returns-then-is_ordinal
+returns-then-is_ordinal c = and_go _ _ _ (sym c.is_ordinal.ensures ∙ c.if-is_ordinal.true) (rw c.first_letter.ensures c.is_weekday.ensures)

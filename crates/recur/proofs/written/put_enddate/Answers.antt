@@ -1,31 +1,10 @@
--- `recur::put_enddate` meets its contract.
-use Rattle.sink.specs.laws.Sink.{writing}
+-- `recur::written::put_enddate` meets its contract.
+use mathlib.Core.Path.{sym, ◌∙◌}
 use Rattle.recur.specs.laws.PutShown.{put_end_day, put_end_moment}
 use Rattle.recur.proofs.written.put_enddate.Goals as goal
 
-pub read_date-a-requires : goal.read_date-a-requires
-read_date-a-requires c = search writing
+pub returns-then-is_some : goal.returns-then-is_some
+returns-then-is_some c = put_end_day _ _ _ c.read_date.result c.read_date.ensures (sym c.is_some.ensures ∙ c.if-is_some.true) c.put_date.ensures
 
-pub enum_known-a : goal.enum_known-a
-enum_known-a c = search writing
-
-pub put_date-requires : goal.put_date-requires
-put_date-requires c = search writing
-
-pub enum_told-1 : goal.enum_told-1
-enum_told-1 c = search writing
-
-pub put_date_time-requires : goal.put_date_time-requires
-put_date_time-requires c = search writing
-
-pub shape_of-out-in-Day : goal.shape_of-out-in-Day
-shape_of-out-in-Day c = search writing
-
-pub returns-in-Day : goal.returns-in-Day
-returns-in-Day c = put_end_day _ _ _ c.read_date-a.ensures c.in-Day.is c.put_date.ensures
-
-pub shape_of-out-in-NoDate : goal.shape_of-out-in-NoDate
-shape_of-out-in-NoDate c = search writing
-
-pub returns-in-NoDate : goal.returns-in-NoDate
-returns-in-NoDate c = put_end_moment _ _ _ c.read_date-a.ensures c.in-NoDate.is c.put_date_time.ensures
+pub returns : goal.returns
+returns c = put_end_moment _ _ _ c.read_date.result c.read_date.ensures (sym c.is_some.ensures ∙ c.if-is_some.false) c.put_date_time.ensures

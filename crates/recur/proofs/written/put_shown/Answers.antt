@@ -3,47 +3,17 @@ use Rattle.sink.specs.laws.Sink.{writing}
 use Rattle.recur.specs.laws.PutShown.{put_shown_at, put_shown_number, put_shown_beyond}
 use Rattle.recur.proofs.written.put_shown.Goals as goal
 
-pub put_word-requires : goal.put_word-requires
-put_word-requires c = search writing
-
-pub shape_of-out-then-p-eq-FREQ : goal.shape_of-out-then-p-eq-FREQ
-shape_of-out-then-p-eq-FREQ c = search writing
-
 pub returns-then-p-eq-FREQ : goal.returns-then-p-eq-FREQ
 returns-then-p-eq-FREQ c = put_shown_at _ _ _ c.args.p 0 c.if-p-eq-FREQ.true c.put_word.ensures
-
-pub put_enddate-requires : goal.put_enddate-requires
-put_enddate-requires c = search writing
-
-pub shape_of-out-then-p-eq-UNTIL : goal.shape_of-out-then-p-eq-UNTIL
-shape_of-out-then-p-eq-UNTIL c = search writing
 
 pub returns-then-p-eq-UNTIL : goal.returns-then-p-eq-UNTIL
 returns-then-p-eq-UNTIL c = put_shown_at _ _ _ c.args.p 1 c.if-p-eq-UNTIL.true c.put_enddate.ensures
 
-pub put_weekdaynum-requires : goal.put_weekdaynum-requires
-put_weekdaynum-requires c = search writing
-
-pub shape_of-out-then-p-eq-BYDAY : goal.shape_of-out-then-p-eq-BYDAY
-shape_of-out-then-p-eq-BYDAY c = search writing
-
 pub returns-then-p-eq-BYDAY : goal.returns-then-p-eq-BYDAY
 returns-then-p-eq-BYDAY c = put_shown_at _ _ _ c.args.p 7 c.if-p-eq-BYDAY.true c.put_weekdaynum.ensures
 
-pub put_word-requires-then-p-eq-WKST : goal.put_word-requires-then-p-eq-WKST
-put_word-requires-then-p-eq-WKST c = search writing
-
-pub shape_of-out-then-p-eq-WKST : goal.shape_of-out-then-p-eq-WKST
-shape_of-out-then-p-eq-WKST c = search writing
-
 pub returns-then-p-eq-WKST : goal.returns-then-p-eq-WKST
 returns-then-p-eq-WKST c = put_shown_at _ _ _ c.args.p 13 c.if-p-eq-WKST.true c.put_word-then-p-eq-WKST.ensures
-
-pub put_number-requires : goal.put_number-requires
-put_number-requires c = search writing
-
-pub shape_of-out-then-p-lt-KNOWN : goal.shape_of-out-then-p-lt-KNOWN
-shape_of-out-then-p-lt-KNOWN c = search writing
 
 pub returns-then-p-lt-KNOWN : goal.returns-then-p-lt-KNOWN
 returns-then-p-lt-KNOWN c = put_shown_number _ _ _ c.args.p c.if-p-eq-FREQ.false c.if-p-eq-UNTIL.false c.if-p-eq-BYDAY.false c.if-p-eq-WKST.false c.if-p-lt-KNOWN.true c.put_number.ensures

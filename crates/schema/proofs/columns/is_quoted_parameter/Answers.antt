@@ -1,5 +1,4 @@
 -- `schema::columns::is_quoted_parameter` meets its contract.
-use borrow.Author.Rules.{rules}
 use Rattle.schema.specs.Parameters.{parameter_table, unrecognised_parameter}
 use Rattle.schema.specs.laws.Cells.{column_past}
 use Rattle.schema.specs.laws.Columns.{flag_at}

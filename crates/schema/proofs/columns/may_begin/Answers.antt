@@ -1,7 +1,6 @@
 -- `schema::columns::may_begin` meets its contract.
 use mathlib.Core.Path.{◌∙◌}
 use mathlib.Core.List.{[]}
-use borrow.Author.Rules.{rules}
 use Rattle.octets.specs.Words.{is_one_of}
 use Rattle.schema.specs.Components.{component_names, unknown_component}
 use Rattle.schema.specs.Cells.{tabled}

@@ -1,5 +1,4 @@
 -- `schema::columns::parameter_type` meets its contract.
-use borrow.Author.Rules.{rules}
 use mathlib.Core.Path.{◌∙◌}
 use Rattle.schema.specs.Types.{type_place}
 use Rattle.schema.specs.Parameters.{parameter_table, unrecognised_parameter}

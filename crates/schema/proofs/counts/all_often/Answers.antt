@@ -1,11 +1,10 @@
 -- `schema::counts::all_often` meets its contract.
-use borrow.Author.Rules.{rules}
+use mathlib.Core.Path.{◌∙◌}
 use Rattle.schema.specs.laws.Completing.{halves_go, halves_stop}
 use Rattle.schema.proofs.counts.all_often.Goals as goal
 
-pub returns-then-first : goal.returns-then-first
-returns-then-first c = halves_go _ _ c.first_half-rows.ensures c.half_often-first.ensures c.if-first.true
-    c.second_half-others.ensures c.half_often.ensures
+pub returns-then-half_often : goal.returns-then-half_often
+returns-then-half_often c = halves_go _ _ c.first_half.ensures c.half_often.ensures c.if-half_often.true c.second_half.ensures c.half_often-then-half_often.ensures
 
-pub returns : goal.returns
-returns c = halves_stop _ _ c.first_half-rows.ensures c.half_often-first.ensures c.if-first.false
+pub returns-else-half_often : goal.returns-else-half_often
+returns-else-half_often c = c.if-half_often.false ∙ halves_stop _ _ c.first_half.ensures c.half_often.ensures c.if-half_often.false

@@ -1,7 +1,6 @@
 -- `schema::counts::half_often` meets its contract.
 use Prim.Native.Nat.{◌-◌}
-use native.Mathlib.Omega.{arith}
-use Rattle.schema.specs.laws.Completing.{Testing, testing_start, testing_more, testing_stop, testing}
+use Rattle.schema.specs.laws.Completing.{Testing}
 use Rattle.schema.proofs.counts.half_often.Given as goal
 
 abbrev pub invariant-loop-n : goal.invariant-loop-n

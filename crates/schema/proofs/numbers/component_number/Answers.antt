@@ -1,5 +1,4 @@
 -- `schema::numbers::component_number` meets its contract.
-use borrow.Author.Rules.{rules}
 use Rattle.names.specs.laws.Table.{by_table}
 use Rattle.schema.specs.laws.Numbers.{component_names_are}
 use Rattle.schema.proofs.numbers.component_number.Goals as goal

@@ -1,6 +1,5 @@
 -- `schema::numbers::parameter_number` meets its contract.
 use mathlib.Core.Path.{refl}
-use borrow.Author.Rules.{rules}
 use Rattle.names.specs.Packing.{find}
 use Rattle.names.specs.laws.Packing.{by_packs, finding}
 use Rattle.schema.specs.Parameters.{parameter_names}
@@ -8,29 +7,13 @@ use Rattle.schema.specs.Packs.{parameter_rows, parameter_rows3}
 use Rattle.schema.specs.laws.Numbers.{parameters_packed}
 use Rattle.schema.proofs.numbers.parameter_number.Goals as goal
 
-pub pack-w-requires : goal.pack-w-requires
-unfolding find
-pack-w-requires c = search rules
-
-pub parameter_1-requires : goal.parameter_1-requires
-unfolding find
-parameter_1-requires c = search rules
-
 pub returns-then-w-lt6652008112848 : goal.returns-then-w-lt6652008112848
 unfolding find
 returns-then-w-lt6652008112848 c = by_packs _ parameter_rows parameter_rows3 parameter_names 19 parameters_packed refl c.pack-w.ensures (search finding depth 12)
 
-pub parameter_2-requires : goal.parameter_2-requires
-unfolding find
-parameter_2-requires c = search rules
-
 pub returns-then-w-lt925981168003141 : goal.returns-then-w-lt925981168003141
 unfolding find
 returns-then-w-lt925981168003141 c = by_packs _ parameter_rows parameter_rows3 parameter_names 19 parameters_packed refl c.pack-w.ensures (search finding depth 12)
-
-pub parameter_3-requires : goal.parameter_3-requires
-unfolding find
-parameter_3-requires c = search rules
 
 pub returns : goal.returns
 unfolding find

@@ -1,5 +1,4 @@
 -- `schema::numbers::type_number` meets its contract.
-use borrow.Author.Rules.{rules}
 use Rattle.names.specs.laws.Table.{by_table}
 use Rattle.schema.specs.laws.Numbers.{type_names_are}
 use Rattle.schema.proofs.numbers.type_number.Goals as goal

@@ -1,6 +1,5 @@
 -- `schema::table::row_by` meets its contract. That the constant MIDDLE is the key of the middle row is computed here.
 use native.Mathlib.Omega.{arith}
-use borrow.Author.Rules.{rules}
 use Rattle.names.specs.Packing.{packing_compute}
 use Rattle.schema.specs.Computing.{schema_compute}
 use Rattle.schema.specs.Halving.{short_key, long_key, key_for}

@@ -3,9 +3,7 @@ use mathlib.Core.Path.{◌≡◌}
 use Prim.Native.Nat.{ℕ, ◌+◌, ◌-◌, ◌/◌, ◌<◌, ◌≤◌}
 use native.Mathlib.Omega.{arith}
 use lib.ListN.{length}
-use borrow.Author.Rules.{rules}
 use Rattle.schema.specs.Computing.{schema_compute}
-use Rattle.schema.specs.Halving.{below}
 use Rattle.schema.specs.Coded.{columns, coded}
 use Rattle.schema.specs.Properties.{unrecognised_property}
 use Rattle.schema.specs.laws.Halving.{below_more, below_less, below_within, found_hit, found_miss, found_end}

@@ -1,6 +1,5 @@
 -- `schema::table::row_of` meets its contract.
 use mathlib.Core.Path.{◌∙◌, ap}
-use borrow.Author.Rules.{rules}
 use Rattle.schema.specs.Coded.{row_at}
 use Rattle.schema.specs.laws.Halving.{table_halved}
 use Rattle.schema.proofs.table.row_of.Goals as goal

@@ -1,9 +1,8 @@
 -- `schema::words::has_words` meets its contract.
-use borrow.Author.Rules.{rules}
-use mathlib.Core.Path.{◌∙◌}
-use Rattle.schema.specs.Sets.{word_sets}
-use Rattle.schema.specs.laws.Sets.{nth_read}
+use Rattle.std.specs.Prelude.{is_some}
+use mathlib.Core.Path.{◌∙◌, ap}
+use Rattle.schema.specs.laws.Sets.{set_there}
 use Rattle.schema.proofs.words.has_words.Goals as goal
 
 pub returns : goal.returns
-returns c = nth_read word_sets c.set_at-n.result ∙ rw c.set_at-n.ensures
+returns c = c.is_some.ensures ∙ ap is_some c.set_at.ensures ∙ set_there c.args.k c.args.p

@@ -1,23 +1,25 @@
 -- `schema::words::read_in_set` meets its contract.
 use borrow.Author.Rules.{rules}
-use Rattle.schema.specs.Sets.{word_sets}
-use Rattle.schema.specs.laws.Sets.{stored, set_yes, set_no, word_none}
+use Rattle.schema.specs.laws.Sets.{word_missing, stored, set_yes, set_no, word_none}
 use Rattle.schema.proofs.words.read_in_set.Goals as goal
 
+pub returns-in_err-n : goal.returns-in_err-n
+returns-in_err-n c = search (rules, word_missing)
+
+pub returns-then-n-ge-COUNT : goal.returns-then-n-ge-COUNT
+returns-then-n-ge-COUNT c = word_none _ c.in_ok-n.was c.if-n-ge-COUNT.true
+
 pub slice_bounds-find_word-count : goal.slice_bounds-find_word-count
-slice_bounds-find_word-count c = (stored _ c.if-n-lt-NONE.true).rises
+slice_bounds-find_word-count c = (stored _ c.if-n-ge-COUNT.false).rises
 
 pub slice_bounds-find_word-start : goal.slice_bounds-find_word-start
-slice_bounds-find_word-start c = (stored _ c.if-n-lt-NONE.true).rises
+slice_bounds-find_word-start c = (stored _ c.if-n-ge-COUNT.false).rises
 
 pub slice_bounds-find_word-end : goal.slice_bounds-find_word-end
-slice_bounds-find_word-end c = (stored _ c.if-n-lt-NONE.true).within
+slice_bounds-find_word-end c = (stored _ c.if-n-ge-COUNT.false).within
 
 pub returns-then-i-n : goal.returns-then-i-n
-returns-then-i-n c = set_yes _ c.if-n-lt-NONE.true c.find_word-i.ensures c.if-i-n.true
-
-pub returns-then-n-lt-NONE : goal.returns-then-n-lt-NONE
-returns-then-n-lt-NONE c = set_no _ c.if-n-lt-NONE.true c.find_word-i.ensures c.if-i-n.false
+returns-then-i-n c = set_yes _ c.in_ok-n.was c.if-n-ge-COUNT.false c.find_word-i.ensures c.if-i-n.true
 
 pub returns : goal.returns
-returns c = word_none word_sets _ _ c.if-n-lt-NONE.false
+returns c = set_no _ c.in_ok-n.was c.if-n-ge-COUNT.false c.find_word-i.ensures c.if-i-n.false

@@ -1,15 +1,9 @@
 -- `text_entries::bound::opens_bound` meets its contract.
-use Rattle.octets.specs.laws.Pick.{branching}
+use Rattle.octets.specs.laws.Pick.{branching_joined}
 use Rattle.text_entries.proofs.bound.opens_bound.Goals as goal
 
-pub returns-then-b-eq-UPPER_B : goal.returns-then-b-eq-UPPER_B
-returns-then-b-eq-UPPER_B c = search branching
-
-pub returns-then-b-eq-LOWER_B : goal.returns-then-b-eq-LOWER_B
-returns-then-b-eq-LOWER_B c = search branching
-
 pub returns-then-b-eq-UPPER_E : goal.returns-then-b-eq-UPPER_E
-returns-then-b-eq-UPPER_E c = search branching
+returns-then-b-eq-UPPER_E c = search branching_joined
 
-pub returns : goal.returns
-returns c = search branching
+pub returns-else-b-eq-UPPER_E : goal.returns-else-b-eq-UPPER_E
+returns-else-b-eq-UPPER_E c = search branching_joined

@@ -1,5 +1,4 @@
 -- `text_entries::entry::kind_of` meets its contract.
-use borrow.Author.Rules.{rules}
 use Rattle.octets.specs.laws.Pick.{branching}
 use Rattle.text_entries.proofs.entry.kind_of.Goals as goal
 

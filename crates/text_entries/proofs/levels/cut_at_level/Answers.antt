@@ -1,5 +1,4 @@
 -- `text_entries::levels::cut_at_level` meets its contract.
-use borrow.Author.Rules.{rules}
 use Rattle.text_entries.specs.laws.Levels.{cut_bare, cut_more, cut_deep}
 use Rattle.text_entries.proofs.levels.cut_at_level.Goals as goal
 

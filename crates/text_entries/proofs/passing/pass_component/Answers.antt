@@ -1,7 +1,5 @@
 -- `text_entries::passing::pass_component` meets its contract.
-use Prim.Native.Nat.{◌-◌}
-use lib.ListN.{length}
-use Rattle.text_entries.proofs.Past.{Passing, passings}
+use Rattle.text_entries.proofs.Past.{passings}
 use Rattle.text_entries.proofs.passing.pass_component.Goals as goal
 
 pub loop-at-init : goal.loop-at-init

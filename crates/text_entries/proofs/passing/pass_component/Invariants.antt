@@ -1,7 +1,7 @@
 -- `text_entries::passing::pass_component` meets its contract.
 use Prim.Native.Nat.{◌-◌}
 use lib.ListN.{length}
-use Rattle.text_entries.proofs.Past.{Passing, passings}
+use Rattle.text_entries.proofs.Past.{Passing}
 use Rattle.text_entries.proofs.passing.pass_component.Given as goal
 
 abbrev pub invariant-loop-at : goal.invariant-loop-at

@@ -4,7 +4,6 @@ use Prim.Native.Nat.{◌-◌, ◌*◌, ◌≤◌}
 use lib.ListN.{length}
 use Rattle.calendar.specs.Calendar.{format_of}
 use Rattle.source.specs.Source.{rest}
-use Rattle.texts.specs.laws.Kept.{reading_binary}
 use Rattle.texts.specs.Binary.{is_binary, binary_from, binary_chars}
 use Rattle.texts.proofs.binary.read_binary.Given as goal
 

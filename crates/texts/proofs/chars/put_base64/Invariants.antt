@@ -4,10 +4,8 @@ use Prim.Native.Nat.{◌-◌, ◌*◌}
 use lib.ListN.{length}
 use Rattle.calendar.specs.Calendar.{format_of}
 use Rattle.sink.specs.Sink.{Todo}
-use Rattle.sink.specs.laws.Sink.{writing}
 use Rattle.source.specs.Source.{rest}
 use Rattle.texts.specs.Binary.{binary_chars}
-use Rattle.texts.specs.laws.Chars.{writing_base64}
 use Rattle.texts.proofs.chars.put_base64.Given as goal
 
 abbrev pub invariant-loop-t : goal.invariant-loop-t

@@ -1,35 +1,10 @@
 -- `texts::put_chars` meets its contract.
-use mathlib.Core.Path.{◌≡◌}
-use Prim.Native.Nat.{◌-◌, ◌*◌}
-use lib.ListN.{length}
-use Rattle.sink.specs.Sink.{Todo}
-use Rattle.sink.specs.laws.Sink.{each}
-use Rattle.source.specs.Source.{rest}
 use Rattle.source.specs.laws.Copying.{copying}
-use Rattle.texts.specs.Chars.{as_is_byte}
 use Rattle.texts.specs.laws.Chars.{put_as_is}
 use Rattle.texts.proofs.chars.put_chars.Goals as goal
 
-pub loop-t-init : goal.loop-t-init
-loop-t-init c = search copying
-
-pub unit-t-requires : goal.unit-t-requires
-unit-t-requires c = search copying
-
-pub shape_of-out-then-u-eq-END : goal.shape_of-out-then-u-eq-END
-shape_of-out-then-u-eq-END c = search copying
-
-pub returns-then-u-eq-END : goal.returns-then-u-eq-END
-returns-then-u-eq-END c = put_as_is (search copying)
-
-pub overflow_cast-u : goal.overflow_cast-u
-overflow_cast-u c = search copying
-
-pub put_byte-o-requires : goal.put_byte-o-requires
-put_byte-o-requires c = search copying
-
-pub loop-t-smaller : goal.loop-t-smaller
-loop-t-smaller c = search copying
+pub returns-then-t-eq-END : goal.returns-then-t-eq-END
+returns-then-t-eq-END c = put_as_is (search copying)
 
 pub loop-t-preserved : goal.loop-t-preserved
 loop-t-preserved c = search copying

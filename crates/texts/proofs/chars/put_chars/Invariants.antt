@@ -5,9 +5,7 @@ use lib.ListN.{length}
 use Rattle.sink.specs.Sink.{Todo}
 use Rattle.sink.specs.laws.Sink.{each}
 use Rattle.source.specs.Source.{rest}
-use Rattle.source.specs.laws.Copying.{copying}
 use Rattle.texts.specs.Chars.{as_is_byte}
-use Rattle.texts.specs.laws.Chars.{put_as_is}
 use Rattle.texts.proofs.chars.put_chars.Given as goal
 
 abbrev pub invariant-loop-t : goal.invariant-loop-t

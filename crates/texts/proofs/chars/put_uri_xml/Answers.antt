@@ -2,20 +2,8 @@
 use Rattle.texts.specs.laws.Chars.{writing_kept}
 use Rattle.texts.proofs.chars.put_uri_xml.Goals as goal
 
-pub read_uri-k-requires : goal.read_uri-k-requires
-read_uri-k-requires c = search writing_kept
-
-pub is_kept-requires : goal.is_kept-requires
-is_kept-requires c = search writing_kept
-
-pub put_escaped-requires : goal.put_escaped-requires
-put_escaped-requires c = search writing_kept
-
-pub shape_of-out-then-is_kept : goal.shape_of-out-then-is_kept
-shape_of-out-then-is_kept c = search writing_kept
-
-pub returns-then-is_kept : goal.returns-then-is_kept
-returns-then-is_kept c = search writing_kept
+pub returns-then-read_uri : goal.returns-then-read_uri
+returns-then-read_uri c = search writing_kept
 
 pub returns : goal.returns
 returns c = search writing_kept

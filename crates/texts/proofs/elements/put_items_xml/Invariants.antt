@@ -1,7 +1,7 @@
 -- `texts::put_items_xml` meets its contract.
 use Prim.Native.Nat.{◌-◌, ◌*◌}
 use lib.ListN.{length}
-use Rattle.texts.specs.laws.Elements.{Listing, listing}
+use Rattle.texts.specs.laws.Elements.{Listing}
 use Rattle.texts.proofs.elements.put_items_xml.Given as goal
 
 abbrev pub invariant-loop-n : goal.invariant-loop-n

@@ -1,15 +1,9 @@
--- `texts::is_between` meets its contract.
-use Rattle.octets.specs.laws.Pick.{branching}
+-- `texts::items::is_between` meets its contract.
+use Rattle.std.proofs.Common.{arith}
+use Rattle.std.proofs.lemmas.Bool.Decides.{nat_tests}
+use Rattle.octets.specs.Pick.{pick, ◌and◌}
 use Rattle.texts.proofs.items.is_between.Goals as goal
 
-pub returns-then-after : goal.returns-then-after
-returns-then-after c = search branching
-
-pub is_break-requires : goal.is_break-requires
-is_break-requires c = search branching
-
-pub returns-then-u-sep : goal.returns-then-u-sep
-returns-then-u-sep c = search branching
-
-pub returns : goal.returns
-returns c = search branching
+pub returns-else-u-sep : goal.returns-else-u-sep
+unfolding pick ◌and◌
+returns-else-u-sep c = grind (arith, nat_tests)

@@ -1,11 +1,11 @@
 -- `texts::item_end` meets its contract.
 use Prim.Native.Nat.{◌-◌, ◌*◌}
 use lib.ListN.{length}
-use Rattle.texts.specs.laws.Items.{Walking, walking}
+use Rattle.texts.specs.laws.Items.{Walking}
 use Rattle.texts.proofs.items.item_end.Given as goal
 
-abbrev pub invariant-loop-n : goal.invariant-loop-n
-invariant-loop-n l = Walking l.sep l.mode l.s l.at l.after l.c
+abbrev pub invariant-loop-t : goal.invariant-loop-t
+invariant-loop-t l = Walking l.sep l.mode l.s l.at l.after l.c
 
-abbrev pub decreases-loop-n : goal.decreases-loop-n
-decreases-loop-n l = 4 * length l.s - l.c
+abbrev pub decreases-loop-t : goal.decreases-loop-t
+decreases-loop-t l = 4 * length l.s - l.c

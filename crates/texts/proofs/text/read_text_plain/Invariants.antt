@@ -6,7 +6,6 @@ use Rattle.octets.specs.Reading.{is_read}
 use Rattle.source.specs.Source.{rest}
 use Rattle.texts.specs.Text.{split_text}
 use Rattle.texts.specs.Unescaped.{is_split}
-use Rattle.texts.specs.laws.Unescaped.{reading_text}
 use Rattle.texts.proofs.text.read_text_plain.Given as goal
 
 abbrev pub invariant-loop-t : goal.invariant-loop-t

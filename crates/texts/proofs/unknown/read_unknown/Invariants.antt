@@ -3,7 +3,6 @@ use mathlib.Core.Path.{◌≡◌}
 use Prim.Native.Nat.{◌-◌, ◌*◌}
 use lib.ListN.{length}
 use Rattle.source.specs.Source.{rest}
-use Rattle.texts.specs.laws.Kept.{reading_unknown}
 use Rattle.texts.specs.Unknown.{is_unknown}
 use Rattle.texts.proofs.unknown.read_unknown.Given as goal
 

@@ -1,24 +1,9 @@
--- `texts::is_scheme_char` meets its contract.
-use Rattle.octets.specs.laws.Pick.{branching}
+-- `texts::uri::is_scheme_char` meets its contract.
+use Rattle.std.proofs.Common.{arith}
+use Rattle.std.proofs.lemmas.Bool.Decides.{nat_tests}
+use Rattle.octets.specs.Pick.{◌or◌}
 use Rattle.texts.proofs.uri.is_scheme_char.Goals as goal
 
-pub is_alpha-requires : goal.is_alpha-requires
-is_alpha-requires c = search branching
-
-pub returns-then-is_alpha : goal.returns-then-is_alpha
-returns-then-is_alpha c = search branching
-
-pub is_digit-requires : goal.is_digit-requires
-is_digit-requires c = search branching
-
-pub returns-then-is_digit : goal.returns-then-is_digit
-returns-then-is_digit c = search branching
-
-pub returns-then-u-eq-PLUS : goal.returns-then-u-eq-PLUS
-returns-then-u-eq-PLUS c = search branching
-
 pub returns-then-u-eq-HYPHEN : goal.returns-then-u-eq-HYPHEN
-returns-then-u-eq-HYPHEN c = search branching
-
-pub returns : goal.returns
-returns c = search branching
+unfolding ◌or◌
+returns-then-u-eq-HYPHEN c = grind (arith, nat_tests)

@@ -4,7 +4,6 @@ use mathlib.Core.Path.{◌≡◌}
 use Prim.Native.Nat.{◌-◌, ◌*◌}
 use lib.ListN.{length}
 use Rattle.source.specs.Source.{rest}
-use Rattle.texts.specs.laws.Kept.{reading_uri}
 use Rattle.texts.specs.Uri.{uri_from}
 use Rattle.texts.proofs.uri.read_after.Given as goal
 

@@ -5,9 +5,7 @@ use lib.ListN.{length}
 use Rattle.sink.specs.Sink.{Todo}
 use Rattle.sink.specs.laws.Sink.{each}
 use Rattle.source.specs.Source.{rest}
-use Rattle.source.specs.laws.Copying.{copying}
 use Rattle.texts.specs.Text.{escape_text}
-use Rattle.texts.specs.laws.Written.{text_each_of}
 use Rattle.texts.proofs.written.put_text_escaped.Given as goal
 
 abbrev pub invariant-loop-t : goal.invariant-loop-t

@@ -7,7 +7,6 @@ use Rattle.sink.specs.Sink.{Todo}
 use Rattle.source.specs.Source.{rest}
 use Rattle.xml.specs.Escape.{escaped}
 use Rattle.texts.specs.Unescaped.{unescaped}
-use Rattle.texts.specs.laws.Written.{writing_xml}
 use Rattle.texts.proofs.written.put_unescaped.Given as goal
 
 abbrev pub invariant-loop-t : goal.invariant-loop-t

@@ -1,24 +1,15 @@
 -- `times::date::read_date` meets its contract.
-use Rattle.octets.specs.laws.Pick.{flag_yes, flag_no, branching}
-use Rattle.times.specs.laws.DateAlong.{date_ended, date_longer, date_lost}
+use Rattle.octets.specs.laws.Pick.{flag_yes, flag_no}
 use mathlib.Core.Path.{◌∙◌}
 use Rattle.calendar.specs.Calendar.{format_of}
+use Rattle.times.specs.laws.DateAlong.{date_ended, date_longer, date_lost}
 use Rattle.times.proofs.date.read_date.Goals as goal
 
-pub follow_date-w-requires : goal.follow_date-w-requires
-follow_date-w-requires c = search branching
+pub returns-in_err-walk : goal.returns-in_err-walk
+returns-in_err-walk c = rw c.from_residual.ensures (date_lost (format_of c.args.xcal) c.follow_date.ensures c.in_err-walk.was)
 
-pub ended-end-requires : goal.ended-end-requires
-ended-end-requires c = search branching
+pub returns-then-ended : goal.returns-then-ended
+returns-then-ended c = date_ended (format_of c.args.xcal) c.follow_date.ensures c.in_ok-walk.was (flag_yes _ _ c.ended.ensures c.if-ended.true) ∙ c.day_from.ensures
 
-pub day_from-requires : goal.day_from-requires
-day_from-requires c = search branching
-
-pub returns-then-end : goal.returns-then-end
-returns-then-end c = date_ended (format_of c.args.xcal) c.follow_date-w.ensures c.if-ok.true (flag_yes _ _ c.ended-end.ensures c.if-end.true) ∙ c.day_from.ensures
-
-pub returns-then-ok : goal.returns-then-ok
-returns-then-ok c = date_longer (format_of c.args.xcal) c.follow_date-w.ensures c.if-ok.true (flag_no _ _ c.ended-end.ensures c.if-end.false)
-
-pub returns : goal.returns
-returns c = date_lost (format_of c.args.xcal) c.follow_date-w.ensures c.if-ok.false
+pub returns-else-ended : goal.returns-else-ended
+returns-else-ended c = date_longer (format_of c.args.xcal) c.follow_date.ensures c.in_ok-walk.was (flag_no _ _ c.ended.ensures c.if-ended.false)

@@ -1,12 +1,18 @@
 -- `times::date_time::moment_from` meets its contract.
-use borrow.Author.Rules.{rules}
-use Rattle.times.specs.laws.DateTimeAlong.{moment_day, moment_none}
-use mathlib.Core.Path.{◌∙◌, ap}
+use Rattle.std.proofs.Common.{◌∙◌, ap}
 use Rattle.times.specs.DateAlong.{day_of}
+use Rattle.times.specs.TimeAlong.{clock_of}
+use Rattle.times.specs.DateTimeAlong.{join_time}
+use Rattle.times.specs.laws.DateTimeAlong.{moment_day, moment_none}
 use Rattle.times.proofs.date_time.moment_from.Goals as goal
 
-pub returns-in-Day : goal.returns-in-Day
-returns-in-Day c = moment_day _ _ (c.day_from-day.ensures ∙ ap day_of c.in-Day.is) c.clock_from-clock.ensures ∙ c.moment_on.ensures
+pub returns-in_err-date : goal.returns-in_err-date
+returns-in_err-date c = rw c.from_residual.ensures (moment_none _ _ (c.day_from.ensures ∙ ap day_of c.in_err-date.was))
 
-pub returns-in-NoDate : goal.returns-in-NoDate
-returns-in-NoDate c = moment_none _ _ (c.day_from-day.ensures ∙ ap day_of c.in-NoDate.is)
+pub returns-in_err-time : goal.returns-in_err-time
+unfolding join_time
+returns-in_err-time c = rw c.from_residual-in_err-time.ensures (moment_day _ _ (c.day_from.ensures ∙ ap day_of c.in_ok-date.was) (c.clock_from.ensures ∙ ap clock_of c.in_err-time.was))
+
+pub returns : goal.returns
+unfolding join_time
+returns c = moment_day _ _ (c.day_from.ensures ∙ ap day_of c.in_ok-date.was) (c.clock_from.ensures ∙ ap clock_of c.in_ok-time.was)

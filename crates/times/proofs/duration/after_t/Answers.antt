@@ -3,18 +3,10 @@ use Rattle.times.specs.laws.DurationAt.{counting}
 use Rattle.times.specs.Duration.{dur_time}
 use Rattle.times.proofs.duration.after_t.Goals as goal
 
-pub letter-a-requires : goal.letter-a-requires
+pub returns-then-a-eq-UPPER_T : goal.returns-then-a-eq-UPPER_T
 unfolding dur_time
-letter-a-requires c = search counting
+returns-then-a-eq-UPPER_T c = search counting
 
-pub hours-requires : goal.hours-requires
+pub returns-else-a-eq-UPPER_T : goal.returns-else-a-eq-UPPER_T
 unfolding dur_time
-hours-requires c = search counting
-
-pub returns-then-u-eq-UPPER_T : goal.returns-then-u-eq-UPPER_T
-unfolding dur_time
-returns-then-u-eq-UPPER_T c = search counting
-
-pub returns : goal.returns
-unfolding dur_time
-returns c = search counting
+returns-else-a-eq-UPPER_T c = search counting

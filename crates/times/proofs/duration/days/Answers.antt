@@ -3,22 +3,14 @@ use Rattle.times.specs.laws.DurationAt.{counting}
 use Rattle.times.specs.Duration.{dur_date}
 use Rattle.times.proofs.duration.days.Goals as goal
 
-pub digits-a-requires : goal.digits-a-requires
+pub returns-then-a-eq-UPPER_D : goal.returns-then-a-eq-UPPER_D
 unfolding dur_date
-digits-a-requires c = search counting
+returns-then-a-eq-UPPER_D c = search counting
 
-pub no_or_time-requires : goal.no_or_time-requires
+pub returns-else-a-eq-UPPER_D : goal.returns-else-a-eq-UPPER_D
 unfolding dur_date
-no_or_time-requires c = search counting
+returns-else-a-eq-UPPER_D c = search counting
 
-pub returns-then-u-eq-UPPER_D : goal.returns-then-u-eq-UPPER_D
+pub returns-in-None : goal.returns-in-None
 unfolding dur_date
-returns-then-u-eq-UPPER_D c = search counting
-
-pub returns-then-any : goal.returns-then-any
-unfolding dur_date
-returns-then-any c = search counting
-
-pub returns : goal.returns
-unfolding dur_date
-returns c = search counting
+returns-in-None c = search counting

@@ -3,22 +3,14 @@ use Rattle.times.specs.laws.DurationAt.{counting}
 use Rattle.times.specs.Duration.{dur_hour}
 use Rattle.times.proofs.duration.hour.Goals as goal
 
-pub digits-a-requires : goal.digits-a-requires
+pub returns-then-a-eq-UPPER_H : goal.returns-then-a-eq-UPPER_H
 unfolding dur_hour
-digits-a-requires c = search counting
+returns-then-a-eq-UPPER_H c = search counting
 
-pub no_or_minute-requires : goal.no_or_minute-requires
+pub returns-else-a-eq-UPPER_H : goal.returns-else-a-eq-UPPER_H
 unfolding dur_hour
-no_or_minute-requires c = search counting
+returns-else-a-eq-UPPER_H c = search counting
 
-pub returns-then-u-eq-UPPER_H : goal.returns-then-u-eq-UPPER_H
+pub returns-in-None : goal.returns-in-None
 unfolding dur_hour
-returns-then-u-eq-UPPER_H c = search counting
-
-pub returns-then-any : goal.returns-then-any
-unfolding dur_hour
-returns-then-any c = search counting
-
-pub returns : goal.returns
-unfolding dur_hour
-returns c = search counting
+returns-in-None c = search counting

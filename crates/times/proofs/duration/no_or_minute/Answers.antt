@@ -2,14 +2,8 @@
 use Rattle.times.specs.laws.DurationAt.{counting}
 use Rattle.times.proofs.duration.no_or_minute.Goals as goal
 
-pub ended-end-requires : goal.ended-end-requires
-ended-end-requires c = search counting
+pub returns-then-ended : goal.returns-then-ended
+returns-then-ended c = search counting
 
-pub returns-then-end : goal.returns-then-end
-returns-then-end c = search counting
-
-pub minute-requires : goal.minute-requires
-minute-requires c = search counting
-
-pub returns : goal.returns
-returns c = search counting
+pub returns-else-ended : goal.returns-else-ended
+returns-else-ended c = search counting

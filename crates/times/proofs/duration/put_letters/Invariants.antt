@@ -1,5 +1,4 @@
 -- `times::duration::put_letters` meets its contract.
-use Rattle.times.specs.laws.DurationAt.{copying}
 use mathlib.Core.Path.{◌≡◌}
 use Prim.Native.Nat.{◌*◌, ◌-◌}
 use lib.ListN.{length}

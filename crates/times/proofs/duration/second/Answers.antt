@@ -3,22 +3,14 @@ use Rattle.times.specs.laws.DurationAt.{counting}
 use Rattle.times.specs.Duration.{dur_second}
 use Rattle.times.proofs.duration.second.Goals as goal
 
-pub digits-a-requires : goal.digits-a-requires
+pub returns-then-a-eq-UPPER_S : goal.returns-then-a-eq-UPPER_S
 unfolding dur_second
-digits-a-requires c = search counting
+returns-then-a-eq-UPPER_S c = search counting
 
-pub ended-requires : goal.ended-requires
+pub returns-else-a-eq-UPPER_S : goal.returns-else-a-eq-UPPER_S
 unfolding dur_second
-ended-requires c = search counting
+returns-else-a-eq-UPPER_S c = search counting
 
-pub returns-then-u-eq-UPPER_S : goal.returns-then-u-eq-UPPER_S
+pub returns-in-None : goal.returns-in-None
 unfolding dur_second
-returns-then-u-eq-UPPER_S c = search counting
-
-pub returns-then-any : goal.returns-then-any
-unfolding dur_second
-returns-then-any c = search counting
-
-pub returns : goal.returns
-unfolding dur_second
-returns c = search counting
+returns-in-None c = search counting

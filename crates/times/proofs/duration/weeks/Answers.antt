@@ -3,22 +3,14 @@ use Rattle.times.specs.laws.DurationAt.{counting}
 use Rattle.times.specs.Duration.{dur_week}
 use Rattle.times.proofs.duration.weeks.Goals as goal
 
-pub digits-a-requires : goal.digits-a-requires
+pub returns-then-a-eq-UPPER_W : goal.returns-then-a-eq-UPPER_W
 unfolding dur_week
-digits-a-requires c = search counting
+returns-then-a-eq-UPPER_W c = search counting
 
-pub ended-requires : goal.ended-requires
+pub returns-else-a-eq-UPPER_W : goal.returns-else-a-eq-UPPER_W
 unfolding dur_week
-ended-requires c = search counting
+returns-else-a-eq-UPPER_W c = search counting
 
-pub returns-then-u-eq-UPPER_W : goal.returns-then-u-eq-UPPER_W
+pub returns-in-None : goal.returns-in-None
 unfolding dur_week
-returns-then-u-eq-UPPER_W c = search counting
-
-pub returns-then-any : goal.returns-then-any
-unfolding dur_week
-returns-then-any c = search counting
-
-pub returns : goal.returns
-unfolding dur_week
-returns c = search counting
+returns-in-None c = search counting

@@ -5,5 +5,5 @@ use Rattle.times.proofs.follow.is_sign.Goals as goal
 pub returns-then-u-eq-PLUS : goal.returns-then-u-eq-PLUS
 returns-then-u-eq-PLUS c = search branching
 
-pub returns : goal.returns
-returns c = search branching
+pub returns-else-u-eq-PLUS : goal.returns-else-u-eq-PLUS
+returns-else-u-eq-PLUS c = search branching

@@ -3,17 +3,9 @@ use Rattle.octets.specs.laws.Pick.{branching}
 use Rattle.times.specs.Pattern.{passes}
 use Rattle.times.proofs.follow.passing.Goals as goal
 
-pub is_digit-requires : goal.is_digit-requires
-unfolding passes
-is_digit-requires c = search branching
-
 pub returns-then-k-eq-ZERO : goal.returns-then-k-eq-ZERO
 unfolding passes
 returns-then-k-eq-ZERO c = search branching
-
-pub is_sign-requires : goal.is_sign-requires
-unfolding passes
-is_sign-requires c = search branching
 
 pub returns-then-k-eq-PLUS : goal.returns-then-k-eq-PLUS
 unfolding passes

@@ -8,8 +8,5 @@ returns-then-u-lt-LOWER_A c = search branching_joined
 pub returns-then-u-gt-LOWER_Z : goal.returns-then-u-gt-LOWER_Z
 returns-then-u-gt-LOWER_Z c = search branching_joined
 
-pub overflow_sub-result : goal.overflow_sub-result
-overflow_sub-result c = search branching_joined
-
 pub returns : goal.returns
 returns c = search branching_joined

@@ -2,8 +2,5 @@
 use Rattle.times.specs.laws.Letters.{lettering}
 use Rattle.times.proofs.letters.ended.Goals as goal
 
-pub unit-a-requires : goal.unit-a-requires
-unit-a-requires c = search lettering
-
 pub returns : goal.returns
 returns c = search lettering

@@ -2,14 +2,8 @@
 use Rattle.times.specs.laws.Letters.{lettering}
 use Rattle.times.proofs.letters.letter.Goals as goal
 
-pub unit-a-requires : goal.unit-a-requires
-unit-a-requires c = search lettering
-
 pub returns-then-exact : goal.returns-then-exact
 returns-then-exact c = search lettering
-
-pub capital-w-requires : goal.capital-w-requires
-capital-w-requires c = search lettering
 
 pub returns : goal.returns
 returns c = search lettering

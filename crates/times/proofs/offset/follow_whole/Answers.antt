@@ -2,17 +2,11 @@
 use Rattle.times.specs.laws.OffsetAlong.{wholly}
 use Rattle.times.proofs.offset.follow_whole.Goals as goal
 
-pub follow-w-requires : goal.follow-w-requires
-follow-w-requires c = search wholly
+pub returns-in_err-walk : goal.returns-in_err-walk
+returns-in_err-walk c = search wholly
 
-pub ended-end-requires : goal.ended-end-requires
-ended-end-requires c = search wholly
+pub returns-then-ended : goal.returns-then-ended
+returns-then-ended c = search wholly
 
-pub returns-then-end : goal.returns-then-end
-returns-then-end c = search wholly
-
-pub returns-then-ok : goal.returns-then-ok
-returns-then-ok c = search wholly
-
-pub returns : goal.returns
-returns c = search wholly
+pub returns-else-ended : goal.returns-else-ended
+returns-else-ended c = search wholly

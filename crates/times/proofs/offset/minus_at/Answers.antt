@@ -1,5 +1,5 @@
 -- `times::offset::minus_at` meets its contract.
-use borrow.Author.Rules.{rules}
+use Rattle.std.proofs.Common.{rules}
 use Rattle.times.specs.laws.OffsetAlong.{minus_here}
 use Rattle.times.proofs.offset.minus_at.Goals as goal
 

@@ -3,18 +3,10 @@ use Rattle.sink.specs.laws.Sink.{writing}
 use Rattle.times.specs.OffsetWritten.{last_bytes}
 use Rattle.times.proofs.offset.put_last.Goals as goal
 
-pub put_marked-requires : goal.put_marked-requires
+pub returns-in-Some : goal.returns-in-Some
 unfolding last_bytes
-put_marked-requires c = search writing
+returns-in-Some c = rw c.in-Some.is c.put_marked.ensures
 
-pub shape_of-out-then-given : goal.shape_of-out-then-given
+pub returns-in-None : goal.returns-in-None
 unfolding last_bytes
-shape_of-out-then-given c = search writing
-
-pub returns-then-given : goal.returns-then-given
-unfolding last_bytes
-returns-then-given c = search writing
-
-pub returns : goal.returns
-unfolding last_bytes
-returns c = search writing
+returns-in-None c = rw c.in-None.is (search writing)

@@ -3,10 +3,10 @@ use Rattle.octets.specs.laws.Pick.{branching}
 use Rattle.times.specs.OffsetWritten.{sign_of}
 use Rattle.times.proofs.offset.sign.Goals as goal
 
-pub returns-then-neg : goal.returns-then-neg
+pub returns-then-negative : goal.returns-then-negative
 unfolding sign_of
-returns-then-neg c = search branching
+returns-then-negative c = search branching
 
-pub returns : goal.returns
+pub returns-else-negative : goal.returns-else-negative
 unfolding sign_of
-returns c = search branching
+returns-else-negative c = search branching

@@ -1,15 +1,16 @@
 -- `times::period::period_from` meets its contract.
-use borrow.Author.Rules.{rules}
-use Rattle.times.specs.laws.PeriodAt.{starts_not, is_read_lem}
-use mathlib.Core.Path.{◌∙◌, ap}
-use Rattle.times.specs.DateTimeAlong.{moment_of}
+use Rattle.std.proofs.Common.{◌∙◌, ap}
+use Rattle.octets.specs.laws.Pick.{flag_yes, flag_no}
+use Rattle.times.specs.DurationAt.{span_of}
+use Rattle.std.proofs.Math.Bool.{false}
+use Rattle.times.specs.laws.PeriodAt.{ends_explicit, ends_duration, ends_not}
 use Rattle.times.proofs.period.period_from.Goals as goal
 
-pub with_end-requires : goal.with_end-requires
-with_end-requires c = is_read_lem (c.moment_from-b.ensures ∙ ap moment_of c.in-Moment.is)
+pub returns-then-is_some : goal.returns-then-is_some
+returns-then-is_some c = ends_explicit c.args.start c.args.mode c.args.s.now c.args.at c.read_date_time.result c.read_date_time.ensures (flag_yes _ _ c.is_some.ensures c.if-is_some.true)
 
-pub returns-in-Moment : goal.returns-in-Moment
-returns-in-Moment c = c.with_end.ensures
+pub returns-in_err-read_duration : goal.returns-in_err-read_duration
+returns-in_err-read_duration c = rw c.from_residual.ensures (ends_not c.args.start c.args.mode c.args.s.now c.args.at c.read_date_time.result c.read_date_time.ensures (flag_no _ _ c.is_some.ensures c.if-is_some.false) (c.read_duration.ensures ∙ ap (span_of false c.args.mode c.args.s.now) c.in_err-read_duration.was))
 
-pub returns-in-NoDateTime : goal.returns-in-NoDateTime
-returns-in-NoDateTime c = starts_not c.args.n c.args.k c.args.mode c.args.s.now _ (c.moment_from-b.ensures ∙ ap moment_of c.in-NoDateTime.is)
+pub returns : goal.returns
+returns c = ends_duration c.args.start c.args.mode c.args.s.now c.args.at c.read_date_time.result c.read_date_time.ensures (flag_no _ _ c.is_some.ensures c.if-is_some.false) (c.read_duration.ensures ∙ ap (span_of false c.args.mode c.args.s.now) c.in_ok-read_duration.was)

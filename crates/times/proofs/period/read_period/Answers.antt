@@ -1,13 +1,17 @@
 -- `times::period::read_period` meets its contract.
-use borrow.Author.Rules.{rules}
-use Rattle.times.specs.laws.PeriodAt.{period_lost, period_uncut, period_cut}
+use Rattle.std.proofs.Common.{◌∙◌, ap}
+use Rattle.times.specs.DateTimeAlong.{moment_of}
+use Rattle.times.specs.laws.PeriodAt.{period_lost, period_uncut, period_unstarted, period_started}
 use Rattle.times.proofs.period.read_period.Goals as goal
 
-pub returns-then-cut : goal.returns-then-cut
-returns-then-cut c = period_cut c.follow_date_time-w.ensures c.slash_at-c.ensures c.if-ok.true c.if-cut.true c.period_from.ensures
+pub returns-in_err-walk : goal.returns-in_err-walk
+returns-in_err-walk c = rw c.from_residual.ensures (period_lost c.follow_date_time.ensures c.in_err-walk.was)
 
-pub returns-then-ok : goal.returns-then-ok
-returns-then-ok c = period_uncut c.follow_date_time-w.ensures c.slash_at-c.ensures c.if-ok.true c.if-cut.false
+pub returns-in_err-cut : goal.returns-in_err-cut
+returns-in_err-cut c = rw c.from_residual-in_err-cut.ensures (period_uncut c.follow_date_time.ensures c.in_ok-walk.was c.slash_at.ensures c.in_err-cut.was)
+
+pub returns-in_err-start : goal.returns-in_err-start
+returns-in_err-start c = rw c.from_residual-in_err-start.ensures (period_unstarted c.follow_date_time.ensures c.in_ok-walk.was c.slash_at.ensures c.in_ok-cut.was (c.moment_from.ensures ∙ ap moment_of c.in_err-start.was))
 
 pub returns : goal.returns
-returns c = period_lost c.follow_date_time-w.ensures c.if-ok.false
+returns c = period_started c.follow_date_time.ensures c.in_ok-walk.was c.slash_at.ensures c.in_ok-cut.was (c.moment_from.ensures ∙ ap moment_of c.in_ok-start.was) c.period_from.ensures

@@ -7,10 +7,6 @@ pub returns-then-m-le59 : goal.returns-then-m-le59
 unfolding is_hms
 returns-then-m-le59 c = search branching
 
-pub returns-then-h-le23 : goal.returns-then-h-le23
+pub returns-else-m-le59 : goal.returns-else-m-le59
 unfolding is_hms
-returns-then-h-le23 c = search branching
-
-pub returns : goal.returns
-unfolding is_hms
-returns c = search branching
+returns-else-m-le59 c = search branching

@@ -1,20 +1,16 @@
 -- `times::time::read_time` meets its contract.
-use Rattle.octets.specs.laws.Pick.{branching}
+use Rattle.std.proofs.Common.{sym, ◌∙◌}
+use Rattle.octets.specs.Reading.{and_then}
 use Rattle.times.specs.laws.TimeAlong.{time_ended, time_lost}
-use mathlib.Core.Path.{◌∙◌}
 use Rattle.times.proofs.time.read_time.Goals as goal
 
-pub follow_time-w-requires : goal.follow_time-w-requires
-follow_time-w-requires c = search branching
+pub returns-in_err-walk : goal.returns-in_err-walk
+returns-in_err-walk c = rw c.from_residual.ensures (time_lost c.args.xcal c.follow_time.ensures c.in_err-walk.was)
 
-pub zone_at-k-requires : goal.zone_at-k-requires
-zone_at-k-requires c = search branching
-
-pub clock_from-requires : goal.clock_from-requires
-clock_from-requires c = search branching
-
-pub returns-then-ok : goal.returns-then-ok
-returns-then-ok c = time_ended c.args.xcal c.follow_time-w.ensures c.if-ok.true c.zone_at-k.ensures ∙ c.clock_from.ensures
+pub returns-in_err-zone : goal.returns-in_err-zone
+unfolding and_then
+returns-in_err-zone c = rw c.from_residual-in_err-zone.ensures (time_ended c.args.xcal c.follow_time.ensures c.in_ok-walk.was (sym c.in_err-zone.was ∙ c.zone_at.ensures))
 
 pub returns : goal.returns
-returns c = time_lost c.args.xcal c.follow_time-w.ensures c.if-ok.false
+unfolding and_then
+returns c = time_ended c.args.xcal c.follow_time.ensures c.in_ok-walk.was (sym c.in_ok-zone.was ∙ c.zone_at.ensures) ∙ c.clock_from.ensures

@@ -1,21 +1,17 @@
 -- `times::time::zone_at` meets its contract.
-use Rattle.times.specs.laws.TimeAlong.{zoning}
+use Rattle.octets.specs.laws.Pick.{flag_no}
+use Rattle.times.specs.laws.TimeAlong.{zone_more, zone_other, zoning}
+use Rattle.times.proofs.time.zone_at.Goals.{else-a-eq-UPPER_Z-via-then-a-eq-UPPER_Z+else-ended, else-a-eq-UPPER_Z-via-else-a-eq-UPPER_Z}
 use Rattle.times.proofs.time.zone_at.Goals as goal
 
-pub letter-a-requires : goal.letter-a-requires
-letter-a-requires c = search zoning
+pub returns-then-a-eq-END : goal.returns-then-a-eq-END
+returns-then-a-eq-END c = search zoning
 
-pub returns-then-u-eq-END : goal.returns-then-u-eq-END
-returns-then-u-eq-END c = search zoning
-
-pub ended-end-requires : goal.ended-end-requires
-ended-end-requires c = search zoning
-
-pub returns-then-end : goal.returns-then-end
-returns-then-end c = search zoning
-
-pub returns-then-u-eq-UPPER_Z : goal.returns-then-u-eq-UPPER_Z
-returns-then-u-eq-UPPER_Z c = search zoning
+pub returns-then-ended : goal.returns-then-ended
+returns-then-ended c = search zoning
 
 pub returns : goal.returns
-returns c = search zoning
+returns c = elim c.else-a-eq-UPPER_Z.branch [
+  | else-a-eq-UPPER_Z-via-then-a-eq-UPPER_Z+else-ended w ↦ zone_more c.letter-a.ensures w.if-a-eq-UPPER_Z.true (flag_no _ _ w.ended.ensures w.if-ended.false)
+  | else-a-eq-UPPER_Z-via-else-a-eq-UPPER_Z w ↦ zone_other c.letter-a.ensures c.if-a-eq-END.false w.if-a-eq-UPPER_Z.false
+]

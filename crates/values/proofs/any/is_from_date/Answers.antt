@@ -2,32 +2,17 @@
 use Rattle.values.specs.laws.ValueAt.{choosing}
 use Rattle.values.proofs.any.is_from_date.Goals as goal
 
-pub is_date-requires : goal.is_date-requires
-is_date-requires c = search choosing
-
 pub returns-then-t-eq-DATE : goal.returns-then-t-eq-DATE
 returns-then-t-eq-DATE c = search choosing
-
-pub is_date_time-requires : goal.is_date_time-requires
-is_date_time-requires c = search choosing
 
 pub returns-then-t-eq-DATE_TIME : goal.returns-then-t-eq-DATE_TIME
 returns-then-t-eq-DATE_TIME c = search choosing
 
-pub is_duration-requires : goal.is_duration-requires
-is_duration-requires c = search choosing
-
 pub returns-then-t-eq-DURATION : goal.returns-then-t-eq-DURATION
 returns-then-t-eq-DURATION c = search choosing
 
-pub is_float-requires : goal.is_float-requires
-is_float-requires c = search choosing
-
 pub returns-then-t-eq-FLOAT : goal.returns-then-t-eq-FLOAT
 returns-then-t-eq-FLOAT c = search choosing
-
-pub is_from_integer-requires : goal.is_from_integer-requires
-is_from_integer-requires c = search choosing
 
 pub returns : goal.returns
 returns c = search choosing

@@ -2,26 +2,14 @@
 use Rattle.values.specs.laws.ValueAt.{choosing}
 use Rattle.values.proofs.any.is_from_time.Goals as goal
 
-pub is_time-requires : goal.is_time-requires
-is_time-requires c = search choosing
-
 pub returns-then-t-eq-TIME : goal.returns-then-t-eq-TIME
 returns-then-t-eq-TIME c = search choosing
-
-pub is_uri-requires : goal.is_uri-requires
-is_uri-requires c = search choosing
 
 pub returns-then-t-eq-URI : goal.returns-then-t-eq-URI
 returns-then-t-eq-URI c = search choosing
 
-pub is_utc_offset-requires : goal.is_utc_offset-requires
-is_utc_offset-requires c = search choosing
-
 pub returns-then-t-eq-UTC_OFFSET : goal.returns-then-t-eq-UTC_OFFSET
 returns-then-t-eq-UTC_OFFSET c = search choosing
-
-pub is_unknown-requires : goal.is_unknown-requires
-is_unknown-requires c = search choosing
 
 pub returns : goal.returns
 returns c = search choosing

@@ -1,12 +1,9 @@
 -- `values::any::read_value` meets its contract.
-use Rattle.values.specs.laws.ValueAt.{choosing}
+use Rattle.values.specs.laws.ValueAt.{value_yes, value_no}
 use Rattle.values.proofs.any.read_value.Goals as goal
 
-pub is_from_binary-ok-requires : goal.is_from_binary-ok-requires
-is_from_binary-ok-requires c = search choosing
-
-pub returns-then-ok : goal.returns-then-ok
-returns-then-ok c = search choosing
+pub returns-then-is_from_binary : goal.returns-then-is_from_binary
+returns-then-is_from_binary c = value_yes _ _ _ _ c.is_from_binary.ensures c.if-is_from_binary.true
 
 pub returns : goal.returns
-returns c = search choosing
+returns c = value_no _ _ _ _ c.is_from_binary.ensures c.if-is_from_binary.false

@@ -1,13 +1,7 @@
 -- `values::put::put_from_integer` meets its contract.
-use Rattle.sink.specs.laws.Sink.{put_none, writing}
+use Rattle.sink.specs.laws.Sink.{put_none}
 use Rattle.values.specs.laws.PutValue.{placing, put_integer, put_period, put_rule, put_text}
 use Rattle.values.proofs.put.put_from_integer.Goals as goal
-
-pub put_integer-requires : goal.put_integer-requires
-put_integer-requires c = search writing
-
-pub shape_of-out-then-t-eq-INTEGER : goal.shape_of-out-then-t-eq-INTEGER
-shape_of-out-then-t-eq-INTEGER c = search writing
 
 pub returns-then-t-eq-INTEGER : goal.returns-then-t-eq-INTEGER
 returns-then-t-eq-INTEGER c = search (put_integer, placing)
@@ -18,20 +12,8 @@ returns-then-t-eq-PERIOD c = search (put_period, put_none, placing)
 pub returns-then-t-eq-RECUR : goal.returns-then-t-eq-RECUR
 returns-then-t-eq-RECUR c = search (put_rule, put_none, placing)
 
-pub put_text_xml-requires : goal.put_text_xml-requires
-put_text_xml-requires c = search writing
-
-pub shape_of-out-then-t-eq-TEXT : goal.shape_of-out-then-t-eq-TEXT
-shape_of-out-then-t-eq-TEXT c = search writing
-
 pub returns-then-t-eq-TEXT : goal.returns-then-t-eq-TEXT
 returns-then-t-eq-TEXT c = search (put_text, placing)
-
-pub put_from_time-requires : goal.put_from_time-requires
-put_from_time-requires c = search writing
-
-pub shape_of-out : goal.shape_of-out
-shape_of-out c = search writing
 
 pub returns : goal.returns
 returns c = search placing

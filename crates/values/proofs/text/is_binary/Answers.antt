@@ -1,12 +1,6 @@
 -- `values::text::is_binary` meets its contract.
-use Rattle.values.specs.laws.ValueAt.{keeping}
+use Rattle.values.specs.laws.ValueAt.{binary_is}
 use Rattle.values.proofs.text.is_binary.Goals as goal
 
-pub read_binary-k-requires : goal.read_binary-k-requires
-read_binary-k-requires c = search keeping
-
-pub is_kept-requires : goal.is_kept-requires
-is_kept-requires c = search keeping
-
 pub returns : goal.returns
-returns c = search keeping
+returns c = binary_is _ _ c.read_binary.ensures

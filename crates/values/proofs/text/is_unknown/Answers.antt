@@ -1,12 +1,6 @@
 -- `values::text::is_unknown` meets its contract.
-use Rattle.values.specs.laws.ValueAt.{keeping}
+use Rattle.values.specs.laws.ValueAt.{unknown_is}
 use Rattle.values.proofs.text.is_unknown.Goals as goal
 
-pub read_unknown-k-requires : goal.read_unknown-k-requires
-read_unknown-k-requires c = search keeping
-
-pub is_kept-requires : goal.is_kept-requires
-is_kept-requires c = search keeping
-
 pub returns : goal.returns
-returns c = search keeping
+returns c = unknown_is _ _ c.read_unknown.ensures

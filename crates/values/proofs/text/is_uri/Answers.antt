@@ -1,12 +1,6 @@
 -- `values::text::is_uri` meets its contract.
-use Rattle.values.specs.laws.ValueAt.{keeping}
+use Rattle.values.specs.laws.ValueAt.{uri_is}
 use Rattle.values.proofs.text.is_uri.Goals as goal
 
-pub read_uri-k-requires : goal.read_uri-k-requires
-read_uri-k-requires c = search keeping
-
-pub is_kept-requires : goal.is_kept-requires
-is_kept-requires c = search keeping
-
 pub returns : goal.returns
-returns c = search keeping
+returns c = uri_is _ _ c.read_uri.ensures

@@ -1,19 +1,15 @@
 -- `write_jcal::alone::is_alone` meets its contract.
-use borrow.Author.Rules.{rules}
-use Rattle.write_jcal.specs.laws.Alone.{alone_more, alone_last, alone_none}
+use Rattle.write_jcal.specs.laws.Alone.{begun_at, alone_is_last, alone_none}
 use Rattle.write_jcal.proofs.alone.is_alone.Goals as goal
 
-pub pass_component-e-requires : goal.pass_component-e-requires
-pass_component-e-requires c = c.next_begin-a.ensures.ready
+pub returns-in_default : goal.returns-in_default
+returns-in_default c = alone_none c.next_begin.ensures c.in_default.is
 
-pub next_begin-b-requires : goal.next_begin-b-requires
-next_begin-b-requires c = c.pass_component-e.ensures.ready
+pub pass_component-end-requires : goal.pass_component-end-requires
+pass_component-end-requires c = (begun_at c.next_begin.ensures c.in-Some.is).ready
 
-pub returns-then-b : goal.returns-then-b
-returns-then-b c = search (alone_more, rules)
-
-pub returns-then-a : goal.returns-then-a
-returns-then-a c = search (alone_last, rules)
+pub next_begin-requires-2 : goal.next_begin-requires-2
+next_begin-requires-2 c = c.pass_component-end.ensures.ready
 
 pub returns : goal.returns
-returns c = search (alone_none, rules)
+returns c = alone_is_last c.next_begin.ensures c.in-Some.is c.pass_component-end.ensures c.next_begin-2.ensures c.is_none.ensures

@@ -13,9 +13,6 @@ loop-at-init c = search owns
 pub entry_at-f-requires : goal.entry_at-f-requires
 entry_at-f-requires c = search owns
 
-pub enum_told-1 : goal.enum_told-1
-enum_told-1 c = search owns
-
 pub pass_component-at-requires : goal.pass_component-at-requires
 pass_component-at-requires c = search owns
 
@@ -25,17 +22,11 @@ loop-at-smaller-in-Begin c = search owns
 pub loop-at-preserved-in-Begin : goal.loop-at-preserved-in-Begin
 loop-at-preserved-in-Begin c = search owns
 
-pub enum_told-in-End : goal.enum_told-in-End
-enum_told-in-End c = search owns
-
 pub shape_of-out-in-End : goal.shape_of-out-in-End
 shape_of-out-in-End c = search owns
 
 pub returns-in-End : goal.returns-in-End
 returns-in-End c = search owns
-
-pub enum_told-in-Property : goal.enum_told-in-Property
-enum_told-in-Property c = search owns
 
 pub slice_bounds-put_next_property-end : goal.slice_bounds-put_next_property-end
 slice_bounds-put_next_property-end c = search (length-take-le, rules)
@@ -48,9 +39,6 @@ loop-at-smaller-in-Property c = search owns
 
 pub loop-at-preserved-in-Property : goal.loop-at-preserved-in-Property
 loop-at-preserved-in-Property c = search owns
-
-pub enum_told-in-Nothing : goal.enum_told-in-Nothing
-enum_told-in-Nothing c = search owns
 
 pub loop-at-smaller : goal.loop-at-smaller
 loop-at-smaller c = search owns

@@ -1,47 +1,37 @@
 -- `write_jcal_parameters::line::put_each` meets its contract.
-use mathlib.Core.Bool.{false}
-use Prim.Native.Nat.{◌-◌, ◌*◌}
-use lib.ListN.{length}
-use Rattle.read_text_line.specs.Decoded.{params_in}
+use Rattle.std.proofs.Common.{rules, ◌≡◌, ◌∙◌, ap, None, Ok}
 use Rattle.read_text_line.specs.laws.Params.{param_less}
-use Rattle.write_json.specs.laws.Separated.{Listing, listing_start}
-use Rattle.write_jcal_parameters.specs.Shown.{members_shown}
+use Rattle.write_json.specs.laws.Separated.{listing_start}
 use Rattle.write_jcal_parameters.specs.laws.Walk.{value_passed, param_written, params_over, params_fault}
 use Rattle.sink.specs.laws.Sink.{writing}
 use Rattle.write_jcal_parameters.proofs.line.put_each.Goals as goal
 
-pub loop-c-init : goal.loop-c-init
-loop-c-init c = search (listing_start, writing)
+pub loop-p-init : goal.loop-p-init
+loop-p-init c = search (listing_start, writing)
 
-pub next_param-p-requires : goal.next_param-p-requires
-next_param-p-requires c = search writing
+pub next_param-requires : goal.next_param-requires
+next_param-requires c = search writing
 
-pub is_value_name-value-requires : goal.is_value_name-value-requires
-is_value_name-value-requires c = search writing
+pub is_value_name-requires : goal.is_value_name-requires
+is_value_name-requires c = search writing
 
-pub loop-c-smaller-then-value : goal.loop-c-smaller-then-value
-loop-c-smaller-then-value c = search (param_less, writing)
+pub loop-p-smaller-then-is_value_name : goal.loop-p-smaller-then-is_value_name
+loop-p-smaller-then-is_value_name c = param_less c.next_param.ensures (c.in-Ok-Some.is ∙ ap Ok c.in-Ok-Some.field-0-is)
 
-pub loop-c-preserved-then-value : goal.loop-c-preserved-then-value
-loop-c-preserved-then-value c = search (value_passed, writing)
+pub loop-p-preserved-then-is_value_name : goal.loop-p-preserved-then-is_value_name
+loop-p-preserved-then-is_value_name c = value_passed _ c.requires c.loop-p.invariant c.next_param.ensures (c.in-Ok-Some.is ∙ ap Ok c.in-Ok-Some.field-0-is) c.is_value_name.ensures c.if-is_value_name.true
 
 pub put_member-q-requires : goal.put_member-q-requires
 put_member-q-requires c = search writing
 
-pub loop-c-smaller : goal.loop-c-smaller
-loop-c-smaller c = search (param_less, writing)
+pub loop-p-smaller : goal.loop-p-smaller
+loop-p-smaller c = param_less c.next_param.ensures (c.in-Ok-Some.is ∙ ap Ok c.in-Ok-Some.field-0-is)
 
-pub loop-c-preserved : goal.loop-c-preserved
-loop-c-preserved c = search (param_written, writing)
+pub loop-p-preserved : goal.loop-p-preserved
+loop-p-preserved c = param_written _ c.requires c.loop-p.invariant c.next_param.ensures (c.in-Ok-Some.is ∙ ap Ok c.in-Ok-Some.field-0-is) c.is_value_name.ensures c.if-is_value_name.false c.put_member-q.ensures
 
-pub shape_of-out-else-p-2 : goal.shape_of-out-else-p-2
-shape_of-out-else-p-2 c = search writing
+pub returns-in_default : goal.returns-in_default
+returns-in_default c = let e : c.in_default.field-0 ≡ None = search rules in params_over _ c.requires c.loop-p.invariant c.next_param.ensures (c.in_default.is ∙ ap Ok e)
 
-pub returns-else-p-2 : goal.returns-else-p-2
-returns-else-p-2 c = search (params_fault, writing)
-
-pub shape_of-out-else-p : goal.shape_of-out-else-p
-shape_of-out-else-p c = search writing
-
-pub returns-else-p : goal.returns-else-p
-returns-else-p c = search (params_over, writing)
+pub returns-in_default-2 : goal.returns-in_default-2
+returns-in_default-2 c = params_fault _ c.requires c.loop-p.invariant c.next_param.ensures c.in_default.is

@@ -6,12 +6,10 @@ use Rattle.read_text_line.specs.Decoded.{params_in}
 use Rattle.read_text_line.specs.laws.Params.{param_less}
 use Rattle.write_json.specs.laws.Separated.{Listing, listing_start}
 use Rattle.write_jcal_parameters.specs.Shown.{members_shown}
-use Rattle.write_jcal_parameters.specs.laws.Walk.{value_passed, param_written, params_over, params_fault}
-use Rattle.sink.specs.laws.Sink.{writing}
 use Rattle.write_jcal_parameters.proofs.line.put_each.Given as goal
 
-abbrev pub invariant-loop-c : goal.invariant-loop-c
-invariant-loop-c l = Listing false (members_shown (params_in l.edition l.mode l.s l.at)) l.initial.out l.o l.out l.q l.started (members_shown (params_in l.edition l.mode l.s l.c))
+abbrev pub invariant-loop-p : goal.invariant-loop-p
+invariant-loop-p l = Listing false (members_shown (params_in l.edition l.mode l.s l.at)) l.initial.out l.o l.out l.q l.started (members_shown (params_in l.edition l.mode l.s l.c))
 
-abbrev pub decreases-loop-c : goal.decreases-loop-c
-decreases-loop-c l = 4 * length l.s - l.c
+abbrev pub decreases-loop-p : goal.decreases-loop-p
+decreases-loop-p l = 4 * length l.s - l.c

@@ -3,17 +3,17 @@ use Rattle.write_jcal_parameters.specs.laws.Parts.{put_unread, put_shown}
 use Rattle.sink.specs.laws.Sink.{writing}
 use Rattle.write_jcal_parameters.proofs.line.put_parameters.Goals as goal
 
-pub are_read-read-requires : goal.are_read-read-requires
-are_read-read-requires c = search writing
+pub are_read-requires : goal.are_read-requires
+are_read-requires c = search writing
 
 pub put_object-requires : goal.put_object-requires
 put_object-requires c = search writing
 
-pub shape_of-out-then-read : goal.shape_of-out-then-read
-shape_of-out-then-read c = search writing
+pub shape_of-out-then-are_read : goal.shape_of-out-then-are_read
+shape_of-out-then-are_read c = search writing
 
-pub returns-then-read : goal.returns-then-read
-returns-then-read c = search (put_shown, writing)
+pub returns-then-are_read : goal.returns-then-are_read
+returns-then-are_read c = search (put_shown, writing)
 
 pub put_all-requires : goal.put_all-requires
 put_all-requires c = search writing

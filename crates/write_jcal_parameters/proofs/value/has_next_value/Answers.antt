@@ -1,10 +1,13 @@
 -- `write_jcal_parameters::value::has_next_value` meets its contract.
-use borrow.Author.Rules.{rules}
-use Rattle.write_jcal_parameters.specs.laws.Walk.{next_there, next_over}
+use Rattle.std.proofs.Common.{rules, ◌≡◌, ◌∙◌, ap, None, Ok}
+use Rattle.write_jcal_parameters.specs.laws.Walk.{next_there, next_over, next_fault}
 use Rattle.write_jcal_parameters.proofs.value.has_next_value.Goals as goal
 
-pub returns-then-v : goal.returns-then-v
-returns-then-v c = search (next_there, rules)
+pub returns-in-Ok-Some : goal.returns-in-Ok-Some
+returns-in-Ok-Some c = next_there c.next_value.ensures (c.in-Ok-Some.is ∙ ap Ok c.in-Ok-Some.field-0-is)
 
-pub returns : goal.returns
-returns c = search (next_over, rules)
+pub returns-in_default : goal.returns-in_default
+returns-in_default c = let e : c.in_default.field-0 ≡ None = search rules in next_over c.next_value.ensures (c.in_default.is ∙ ap Ok e)
+
+pub returns-in_default-2 : goal.returns-in_default-2
+returns-in_default-2 c = next_fault c.next_value.ensures c.in_default.is

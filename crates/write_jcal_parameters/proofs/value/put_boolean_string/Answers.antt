@@ -3,23 +3,14 @@ use Rattle.sink.specs.laws.Sink.{put_none, writing}
 use Rattle.write_jcal_parameters.specs.laws.Parts.{put_truth, put_no_truth}
 use Rattle.write_jcal_parameters.proofs.value.put_boolean_string.Goals as goal
 
-pub read_boolean-r-requires : goal.read_boolean-r-requires
-read_boolean-r-requires c = search writing
-
-pub enum_known-r : goal.enum_known-r
-enum_known-r c = search writing
+pub read_boolean-requires : goal.read_boolean-requires
+read_boolean-requires c = search writing
 
 pub put_truth-requires : goal.put_truth-requires
 put_truth-requires c = search writing
 
-pub enum_told-1 : goal.enum_told-1
-enum_told-1 c = search writing
+pub returns-in-Some : goal.returns-in-Some
+returns-in-Some c = search (put_truth, writing)
 
-pub shape_of-out : goal.shape_of-out
-shape_of-out c = search writing
-
-pub returns-in-Truth : goal.returns-in-Truth
-returns-in-Truth c = search (put_truth, writing)
-
-pub returns-in-Bad : goal.returns-in-Bad
-returns-in-Bad c = search (put_no_truth, put_none, writing)
+pub returns-in-None : goal.returns-in-None
+returns-in-None c = search (put_no_truth, put_none, writing)

@@ -9,12 +9,10 @@ use Rattle.read_text_line.specs.Items.{items}
 use Rattle.read_text_line.specs.laws.Values.{value_less}
 use Rattle.write_json.specs.laws.Separated.{Listing, listing_start}
 use Rattle.write_jcal_parameters.specs.Shown.{chars_in, row_at}
-use Rattle.write_jcal_parameters.specs.laws.Walk.{value_written, values_over, values_fault}
-use Rattle.sink.specs.laws.Sink.{writing}
 use Rattle.write_jcal_parameters.proofs.value.put_next_values.Given as goal
 
-abbrev pub invariant-loop-c : goal.invariant-loop-c
-invariant-loop-c l = Listing true (map (chars_in l.edition (row_at l.q)) (items next_value (rest l.mode l.s l.at))) l.initial.out l.o l.out l.p true (map (chars_in l.edition (row_at l.q)) (items next_value (rest l.mode l.s l.c)))
+abbrev pub invariant-loop-v : goal.invariant-loop-v
+invariant-loop-v l = Listing true (map (chars_in l.edition (row_at l.q)) (items next_value (rest l.mode l.s l.at))) l.initial.out l.o l.out l.p true (map (chars_in l.edition (row_at l.q)) (items next_value (rest l.mode l.s l.c)))
 
-abbrev pub decreases-loop-c : goal.decreases-loop-c
-decreases-loop-c l = 4 * length l.s - l.c
+abbrev pub decreases-loop-v : goal.decreases-loop-v
+decreases-loop-v l = 4 * length l.s - l.c

@@ -4,23 +4,14 @@ use Rattle.write_jcal_value.specs.laws.PutValue.{put_plain, put_no_plain}
 use Rattle.sink.specs.laws.Sink.{writing}
 use Rattle.write_jcal_value.proofs.value.put_plain_json.Goals as goal
 
-pub read_value-r-requires : goal.read_value-r-requires
-read_value-r-requires c = search writing
-
-pub enum_known-r : goal.enum_known-r
-enum_known-r c = search writing
+pub read_value-requires : goal.read_value-requires
+read_value-requires c = search writing
 
 pub put_scalar-requires : goal.put_scalar-requires
 put_scalar-requires c = search writing
 
-pub enum_told-1 : goal.enum_told-1
-enum_told-1 c = search writing
+pub returns-in-Some : goal.returns-in-Some
+returns-in-Some c = put_plain c.args.t _ (good_value _ _ (value_plain c.args.t _ _ c.requires.1 c.read_value.ensures)) c.requires.0 c.requires.1 c.in-Some.is c.put_scalar.ensures
 
-pub shape_of-out : goal.shape_of-out
-shape_of-out c = search writing
-
-pub returns-in-Good : goal.returns-in-Good
-returns-in-Good c = put_plain c.args.t _ (good_value _ _ (value_plain c.args.t _ _ c.requires.1 c.read_value-r.ensures)) c.requires.0 c.requires.1 c.in-Good.is c.put_scalar.ensures
-
-pub returns-in-Bad : goal.returns-in-Bad
-returns-in-Bad c = put_no_plain c.args.t _ (good_value _ _ (value_plain c.args.t _ _ c.requires.1 c.read_value-r.ensures)) c.in-Bad.is (search writing)
+pub returns-in-None : goal.returns-in-None
+returns-in-None c = put_no_plain c.args.t _ (good_value _ _ (value_plain c.args.t _ _ c.requires.1 c.read_value.ensures)) c.in-None.is (search writing)

@@ -10,14 +10,8 @@ loop-here-init c = search seeking
 pub node_head-n-requires : goal.node_head-n-requires
 node_head-n-requires c = search seeking
 
-pub enum_told-1 : goal.enum_told-1
-enum_told-1 c = search seeking
-
-pub returns-in-None : goal.returns-in-None
-returns-in-None c = search seeking
-
-pub enum_told-in-Element : goal.enum_told-in-Element
-enum_told-in-Element c = search seeking
+pub returns-in-Absent : goal.returns-in-Absent
+returns-in-Absent c = search seeking
 
 pub is_named-here-requires : goal.is_named-here-requires
 is_named-here-requires c = search seeking
@@ -34,17 +28,11 @@ loop-here-smaller-in-Element c = search seeking
 pub loop-here-preserved-in-Element : goal.loop-here-preserved-in-Element
 loop-here-preserved-in-Element c = search seeking
 
-pub enum_told-in-Literal : goal.enum_told-in-Literal
-enum_told-in-Literal c = search seeking
-
 pub loop-here-smaller-in-Literal : goal.loop-here-smaller-in-Literal
 loop-here-smaller-in-Literal c = search seeking
 
 pub loop-here-preserved-in-Literal : goal.loop-here-preserved-in-Literal
 loop-here-preserved-in-Literal c = search seeking
-
-pub enum_told-in-Referred : goal.enum_told-in-Referred
-enum_told-in-Referred c = search seeking
 
 pub loop-here-smaller : goal.loop-here-smaller
 loop-here-smaller c = search seeking

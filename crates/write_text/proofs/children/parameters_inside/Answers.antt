@@ -10,14 +10,8 @@ loop-here-init c = search sought
 pub node_head-n-requires : goal.node_head-n-requires
 node_head-n-requires c = search sought
 
-pub enum_told-1 : goal.enum_told-1
-enum_told-1 c = search sought
-
-pub returns-in-None : goal.returns-in-None
-returns-in-None c = search sought
-
-pub enum_told-in-Element : goal.enum_told-in-Element
-enum_told-in-Element c = search sought
+pub returns-in-Absent : goal.returns-in-Absent
+returns-in-Absent c = search sought
 
 pub is_parameters-here-requires : goal.is_parameters-here-requires
 is_parameters-here-requires c = search sought
@@ -40,17 +34,11 @@ loop-here-smaller-in-Element c = search sought
 pub loop-here-preserved-in-Element : goal.loop-here-preserved-in-Element
 loop-here-preserved-in-Element c = search sought
 
-pub enum_told-in-Literal : goal.enum_told-in-Literal
-enum_told-in-Literal c = search sought
-
 pub loop-here-smaller-in-Literal : goal.loop-here-smaller-in-Literal
 loop-here-smaller-in-Literal c = search sought
 
 pub loop-here-preserved-in-Literal : goal.loop-here-preserved-in-Literal
 loop-here-preserved-in-Literal c = search sought
-
-pub enum_told-in-Referred : goal.enum_told-in-Referred
-enum_told-in-Referred c = search sought
 
 pub loop-here-smaller : goal.loop-here-smaller
 loop-here-smaller c = search sought

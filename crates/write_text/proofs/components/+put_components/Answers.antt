@@ -15,20 +15,14 @@ loop-out-init t c = search inners
 pub next_node-n-requires : goal.next_node-n-requires
 next_node-n-requires t c = search inners
 
-pub enum_told-1 : goal.enum_told-1
-enum_told-1 t c = search inners
+pub shape_of-out-in-Absent : goal.shape_of-out-in-Absent
+shape_of-out-in-Absent t c = search inners
 
-pub shape_of-out-in-None : goal.shape_of-out-in-None
-shape_of-out-in-None t c = search inners
+pub shape_of-line-in-Absent : goal.shape_of-line-in-Absent
+shape_of-line-in-Absent t c = search inners
 
-pub shape_of-line-in-None : goal.shape_of-line-in-None
-shape_of-line-in-None t c = search inners
-
-pub returns-in-None : goal.returns-in-None
-returns-in-None t c = search inners
-
-pub enum_told-in-Element : goal.enum_told-in-Element
-enum_told-in-Element t c = search inners
+pub returns-in-Absent : goal.returns-in-Absent
+returns-in-Absent t c = search inners
 
 pub put_head-a-requires : goal.put_head-a-requires
 put_head-a-requires t c = search inners
@@ -48,17 +42,11 @@ loop-out-smaller-in-Element t c = search inners
 pub loop-out-preserved-in-Element : goal.loop-out-preserved-in-Element
 loop-out-preserved-in-Element t c = inner_put _ c.loop-out.invariant c.next_node-n.ensures c.if-left-lt1.false c.in-Element.is c.components_inside-inner.ensures c.put_head-a.ensures c.put_components-b.ensures c.put_tail-p.ensures (c.put_tail-p.auto.line ∙ c.put_components-b.auto.line ∙ c.put_head-a.auto.line)
 
-pub enum_told-in-Literal : goal.enum_told-in-Literal
-enum_told-in-Literal t c = search inners
-
 pub loop-out-smaller-in-Literal : goal.loop-out-smaller-in-Literal
 loop-out-smaller-in-Literal t c = search inners
 
 pub loop-out-preserved-in-Literal : goal.loop-out-preserved-in-Literal
 loop-out-preserved-in-Literal t c = search inners
-
-pub enum_told-in-Referred : goal.enum_told-in-Referred
-enum_told-in-Referred t c = search inners
 
 pub loop-out-smaller : goal.loop-out-smaller
 loop-out-smaller t c = search inners

@@ -5,23 +5,23 @@ use Prim.Native.Nat.{◌-◌}
 use Rattle.sink.specs.laws.Sink.{writing}
 use Rattle.write_text_jcal_values.proofs.rule.find_part.Goals as goal
 
-pub loop-here-init : goal.loop-here-init
-loop-here-init c = finding_start _ _ _
+pub loop-m-init : goal.loop-m-init
+loop-m-init c = finding_start _ _ _
 
-pub member_at-m-requires : goal.member_at-m-requires
-member_at-m-requires c = search writing
+pub member_at-requires : goal.member_at-requires
+member_at-requires c = search writing
 
-pub is_part-here-requires : goal.is_part-here-requires
-is_part-here-requires c = (c.requires.0, member_place c.member_at-m.ensures c.if-m.true, c.requires.1)
+pub is_part-requires : goal.is_part-requires
+is_part-requires c = (c.requires.0, member_place c.member_at.ensures c.in-Some.is, c.requires.1)
 
-pub returns-then-here : goal.returns-then-here
-returns-then-here c = finding_here c.loop-here.invariant c.member_at-m.ensures c.if-m.true c.is_part-here.ensures c.if-here.true
+pub returns-then-is_part : goal.returns-then-is_part
+returns-then-is_part c = finding_here c.loop-m.invariant c.member_at.ensures c.in-Some.is c.is_part.ensures c.if-is_part.true
 
-pub loop-here-smaller : goal.loop-here-smaller
-loop-here-smaller c = member_less c.member_at-m.ensures c.if-m.true
+pub loop-m-smaller : goal.loop-m-smaller
+loop-m-smaller c = member_less c.member_at.ensures c.in-Some.is
 
-pub loop-here-preserved : goal.loop-here-preserved
-loop-here-preserved c = finding_on c.loop-here.invariant c.member_at-m.ensures c.if-m.true c.is_part-here.ensures c.if-here.false
+pub loop-m-preserved : goal.loop-m-preserved
+loop-m-preserved c = finding_on c.loop-m.invariant c.member_at.ensures c.in-Some.is c.is_part.ensures c.if-is_part.false
 
-pub returns-else-m : goal.returns-else-m
-returns-else-m c = finding_none c.loop-here.invariant c.member_at-m.ensures c.if-m.false
+pub returns : goal.returns
+returns c = finding_none c.loop-m.invariant c.member_at.ensures c.in_default.is

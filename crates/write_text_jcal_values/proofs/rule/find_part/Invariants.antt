@@ -5,8 +5,8 @@ use Prim.Native.Nat.{◌-◌}
 use Rattle.sink.specs.laws.Sink.{writing}
 use Rattle.write_text_jcal_values.proofs.rule.find_part.Given as goal
 
-abbrev pub invariant-loop-here : goal.invariant-loop-here
-invariant-loop-here l = Finding l.p l.s l.from l.c
+abbrev pub invariant-loop-m : goal.invariant-loop-m
+invariant-loop-m l = Finding l.p l.s l.from l.c
 
-abbrev pub decreases-loop-here : goal.decreases-loop-here
-decreases-loop-here l = length l.s - l.c
+abbrev pub decreases-loop-m : goal.decreases-loop-m
+decreases-loop-m l = length l.s - l.c

@@ -12,20 +12,11 @@ slice_bounds-read_number-end c = search (length-take-le, rules)
 pub read_number-requires : goal.read_number-requires
 read_number-requires c = cut_place _ _ _ c.requires.0 c.requires.1
 
-pub enum_known-neg : goal.enum_known-neg
-enum_known-neg c = search writing
-
-pub enum_told-1 : goal.enum_told-1
-enum_told-1 c = search writing
-
 pub returns-in_default : goal.returns-in_default
 returns-in_default c = no_number c.args.s.now c.args.place c.args.next c.read_number.ensures c.in_default.is
 
 pub put_whole-requires : goal.put_whole-requires
 put_whole-requires c = search writing
 
-pub shape_of-out : goal.shape_of-out
-shape_of-out c = search writing
-
 pub returns : goal.returns
-returns c = number_put c.args.s.now c.args.place c.args.next c.read_number.ensures c.in-Value.is c.put_whole.ensures
+returns c = number_put c.args.s.now c.args.place c.args.next c.read_number.ensures c.in-Some.is c.put_whole.ensures

@@ -7,8 +7,8 @@ use Rattle.write_text_values.specs.laws.Children.{Naming, children, child_none, 
 use borrow.Author.Rules.{rules}
 use Rattle.write_text_values.proofs.child.find_child.Given as goal
 
-abbrev pub invariant-loop-here : goal.invariant-loop-here
-invariant-loop-here l = Naming l.name l.s l.inside l.c
+abbrev pub invariant-children : goal.invariant-children
+invariant-children l = Naming l.name l.s l.inside l.c
 
-abbrev pub decreases-loop-here : goal.decreases-loop-here
-decreases-loop-here l = length l.s - l.c
+abbrev pub decreases-children : goal.decreases-children
+decreases-children l = length l.s - l.c

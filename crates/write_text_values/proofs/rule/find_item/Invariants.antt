@@ -6,8 +6,8 @@ use Rattle.write_text_values.specs.laws.Rules.{Listing, items, item_none, item_h
 use borrow.Author.Rules.{rules}
 use Rattle.write_text_values.proofs.rule.find_item.Given as goal
 
-abbrev pub invariant-loop-q : goal.invariant-loop-q
-invariant-loop-q l = Listing l.p l.s l.at l.c
+abbrev pub invariant-items : goal.invariant-items
+invariant-items l = Listing l.p l.s l.at l.c
 
-abbrev pub decreases-loop-q : goal.decreases-loop-q
-decreases-loop-q l = length l.s - l.c
+abbrev pub decreases-items : goal.decreases-items
+decreases-items l = length l.s - l.c

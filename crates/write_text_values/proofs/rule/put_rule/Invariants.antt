@@ -1,6 +1,6 @@
 -- `write_text_values::rule::put_rule` meets its contract.
 use Prim.Native.Nat.{◌-◌}
-use Rattle.write_text_values.specs.laws.PutRule.{Parting, parts_start, parts_more, parts_none, parts_end, item_name}
+use Rattle.write_text_values.specs.laws.PutRule.{Parting, parts_start, parts_more, parts_none, parts_end}
 use Rattle.sink.specs.laws.Sink.{writing}
 use Rattle.write_text_values.proofs.rule.put_rule.Given as goal
 

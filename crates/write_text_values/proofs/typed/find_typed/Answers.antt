@@ -1,5 +1,6 @@
 -- `write_text_values::typed::find_typed` meets its contract.
 use Rattle.read_xml_nodes.specs.laws.HeadFound.{tag_within, end_less, head_literal_less, head_referred_less}
+use Rattle.std.proofs.Common.{inl, inr}
 use Prim.Native.Nat.{◌-◌}
 use lib.ListN.{length}
 use Rattle.xcal.specs.ValueNodes.{typed_values}
@@ -8,32 +9,26 @@ use Rattle.write_text_values.specs.laws.Typed.{typings, typed_none, typed_here, 
 use borrow.Author.Rules.{rules}
 use Rattle.write_text_values.proofs.typed.find_typed.Goals as goal
 
-pub loop-m-init : goal.loop-m-init
-loop-m-init c = search typings
+pub values-init : goal.values-init
+values-init c = search typings
 
-pub returns-in-None : goal.returns-in-None
-returns-in-None c = typed_none c.loop-m.invariant c.node_head-n.ensures c.in-None.is
+pub returns-in-Absent : goal.returns-in-Absent
+returns-in-Absent c = typed_none c.values.invariant c.node_head-n.ensures c.in-Absent.is
 
-pub returns-in-Type : goal.returns-in-Type
-returns-in-Type c = typed_here c.loop-m.invariant c.node_head-n.ensures c.in-Element.is c.element_type-m.ensures c.in-Type.is
+pub returns-in-Some : goal.returns-in-Some
+returns-in-Some c = typed_here c.values.invariant c.node_head-n.ensures c.in-Element.is c.element_type.ensures c.in-Some.is
 
-pub node_end-e-requires : goal.node_end-e-requires
-node_end-e-requires c = tag_within c.node_head-n.ensures c.in-Element.is
+pub node_end-c-requires : goal.node_end-c-requires
+node_end-c-requires c = tag_within c.node_head-n.ensures c.in-Element.is
 
-pub loop-m-smaller-in-Bad : goal.loop-m-smaller-in-Bad
-loop-m-smaller-in-Bad c = end_less c.node_head-n.ensures c.in-Element.is c.node_end-e.ensures
+pub values-smaller-in-Element : goal.values-smaller-in-Element
+values-smaller-in-Element c = end_less c.node_head-n.ensures c.in-Element.is c.node_end-c.ensures
 
-pub loop-m-preserved-in-Bad : goal.loop-m-preserved-in-Bad
-loop-m-preserved-in-Bad c = typed_other c.loop-m.invariant c.node_head-n.ensures c.in-Element.is c.element_type-m.ensures c.node_end-e.ensures c.in-Bad.is
+pub values-preserved-in-Element : goal.values-preserved-in-Element
+values-preserved-in-Element c = typed_other c.values.invariant c.node_head-n.ensures c.in-Element.is c.element_type.ensures c.node_end-c.ensures c.in_default.is
 
-pub loop-m-smaller-in-Literal : goal.loop-m-smaller-in-Literal
-loop-m-smaller-in-Literal c = head_literal_less c.node_head-n.ensures c.in-Literal.is
+pub values-smaller : goal.values-smaller
+values-smaller c = elim c.in-Literal.is [ inl q ↦ head_literal_less c.node_head-n.ensures q | inr q ↦ head_referred_less c.node_head-n.ensures q ]
 
-pub loop-m-preserved-in-Literal : goal.loop-m-preserved-in-Literal
-loop-m-preserved-in-Literal c = typed_literal c.loop-m.invariant c.node_head-n.ensures c.in-Literal.is
-
-pub loop-m-smaller : goal.loop-m-smaller
-loop-m-smaller c = head_referred_less c.node_head-n.ensures c.in-Referred.is
-
-pub loop-m-preserved : goal.loop-m-preserved
-loop-m-preserved c = typed_referred c.loop-m.invariant c.node_head-n.ensures c.in-Referred.is
+pub values-preserved : goal.values-preserved
+values-preserved c = elim c.in-Literal.is [ inl q ↦ typed_literal c.values.invariant c.node_head-n.ensures q | inr q ↦ typed_referred c.values.invariant c.node_head-n.ensures q ]

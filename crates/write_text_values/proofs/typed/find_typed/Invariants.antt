@@ -8,8 +8,8 @@ use Rattle.write_text_values.specs.laws.Typed.{typings, typed_none, typed_here, 
 use borrow.Author.Rules.{rules}
 use Rattle.write_text_values.proofs.typed.find_typed.Given as goal
 
-abbrev pub invariant-loop-m : goal.invariant-loop-m
-invariant-loop-m l = Seeking typed_values l.s l.at l.c
+abbrev pub invariant-values : goal.invariant-values
+invariant-values l = Seeking typed_values l.s l.at l.c
 
-abbrev pub decreases-loop-m : goal.decreases-loop-m
-decreases-loop-m l = length l.s - l.c
+abbrev pub decreases-values : goal.decreases-values
+decreases-values l = length l.s - l.c

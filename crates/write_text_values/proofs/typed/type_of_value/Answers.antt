@@ -16,8 +16,8 @@ returns-then-t-eq-RECUR c = type_is_recur c.args.t c.args.s.now c.args.i c.requi
 pub overflow_mul-i : goal.overflow_mul-i
 overflow_mul-i c = omega (arith, c.requires)
 
-pub returns-in-Good : goal.returns-in-Good
-returns-in-Good c = type_is_read c.args.t c.args.s.now c.args.i c.requires.2 c.if-t-eq-PERIOD.false c.if-t-eq-RECUR.false (value_there _ _ _ _ _ c.read_value-v.ensures (λ h. absurd (false≢true (sym h)))) c.in-Good.is
+pub returns-in-Some : goal.returns-in-Some
+returns-in-Some c = type_is_read c.args.t c.args.s.now c.args.i c.requires.2 c.if-t-eq-PERIOD.false c.if-t-eq-RECUR.false (value_there _ _ _ _ _ c.read_value.ensures (λ h. absurd (false≢true (sym h)))) c.in-Some.is
 
-pub returns-in-Bad : goal.returns-in-Bad
-returns-in-Bad c = type_is_text c.args.t c.args.s.now c.args.i c.requires.2 c.if-t-eq-PERIOD.false c.if-t-eq-RECUR.false (value_there _ _ _ _ _ c.read_value-v.ensures (λ h. absurd (false≢true (sym h)))) c.in-Bad.is
+pub returns-in-None : goal.returns-in-None
+returns-in-None c = type_is_text c.args.t c.args.s.now c.args.i c.requires.2 c.if-t-eq-PERIOD.false c.if-t-eq-RECUR.false (value_there _ _ _ _ _ c.read_value.ensures (λ h. absurd (false≢true (sym h)))) c.in-None.is

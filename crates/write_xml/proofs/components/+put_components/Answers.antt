@@ -15,9 +15,6 @@ loop-at-init t c = search inners
 pub bound_at-f-requires : goal.bound_at-f-requires
 bound_at-f-requires t c = search inners
 
-pub enum_told-1 : goal.enum_told-1
-enum_told-1 t c = search inners
-
 pub put_head-h-requires : goal.put_head-h-requires
 put_head-h-requires t c = search inners
 
@@ -51,26 +48,17 @@ loop-at-smaller-else-a t c = search inners
 pub loop-at-preserved-else-a : goal.loop-at-preserved-else-a
 loop-at-preserved-else-a t c = inner_at_component c.loop-at.invariant c.bound_at-f.ensures c.requires.1 c.in-Begin.is c.put_head-h.ensures c.put_components-b.ensures c.put_tail-p-else-a.ensures
 
-pub enum_told-in-End : goal.enum_told-in-End
-enum_told-in-End t c = search inners
-
 pub shape_of-out-in-End : goal.shape_of-out-in-End
 shape_of-out-in-End t c = search inners
 
 pub returns-in-End : goal.returns-in-End
 returns-in-End t c = search inners
 
-pub enum_told-in-Property : goal.enum_told-in-Property
-enum_told-in-Property t c = search inners
-
 pub loop-at-smaller-in-Property : goal.loop-at-smaller-in-Property
 loop-at-smaller-in-Property t c = search inners
 
 pub loop-at-preserved-in-Property : goal.loop-at-preserved-in-Property
 loop-at-preserved-in-Property t c = search inners
-
-pub enum_told-in-Nothing : goal.enum_told-in-Nothing
-enum_told-in-Nothing t c = search inners
 
 pub loop-at-smaller : goal.loop-at-smaller
 loop-at-smaller t c = search inners

@@ -13,26 +13,17 @@ loop-at-init c = search leadings
 pub entry_at-f-requires : goal.entry_at-f-requires
 entry_at-f-requires c = search leadings
 
-pub enum_told-1 : goal.enum_told-1
-enum_told-1 c = search leadings
-
 pub shape_of-out-in-Begin : goal.shape_of-out-in-Begin
 shape_of-out-in-Begin c = search leadings
 
 pub returns-in-Begin : goal.returns-in-Begin
 returns-in-Begin c = search leadings
 
-pub enum_told-in-End : goal.enum_told-in-End
-enum_told-in-End c = search leadings
-
 pub shape_of-out-in-End : goal.shape_of-out-in-End
 shape_of-out-in-End c = search leadings
 
 pub returns-in-End : goal.returns-in-End
 returns-in-End c = search leadings
-
-pub enum_told-in-Property : goal.enum_told-in-Property
-enum_told-in-Property c = search leadings
 
 pub slice_bounds-put_property-end : goal.slice_bounds-put_property-end
 slice_bounds-put_property-end c = search (length-take-le, rules)
@@ -45,9 +36,6 @@ loop-at-smaller-in-Property c = search leadings
 
 pub loop-at-preserved-in-Property : goal.loop-at-preserved-in-Property
 loop-at-preserved-in-Property c = search leadings
-
-pub enum_told-in-Nothing : goal.enum_told-in-Nothing
-enum_told-in-Nothing c = search leadings
 
 pub loop-at-smaller : goal.loop-at-smaller
 loop-at-smaller c = search leadings

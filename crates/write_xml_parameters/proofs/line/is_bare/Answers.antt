@@ -1,35 +1,30 @@
 -- `write_xml_parameters::line::is_bare` meets its contract.
-use mathlib.Core.Path.{◌≡◌, refl}
-use Prim.Native.Nat.{◌*◌, ◌-◌}
-use lib.ListN.{length}
-use Rattle.octets.specs.Words.{is_empty}
-use Rattle.read_text_line.specs.Cursor.{params_at}
+use Rattle.std.proofs.Common.{refl, rules, ◌≡◌, ◌∙◌, ap, None, Ok}
 use Rattle.read_text_line.specs.laws.Params.{param_less}
-use Rattle.text.specs.Parameters.{own_parameters}
 use Rattle.write_xml_parameters.specs.laws.Walk.{only_more, only_stop, only_over, only_fault}
 use Rattle.sink.specs.laws.Sink.{writing}
 use Rattle.write_xml_parameters.proofs.line.is_bare.Goals as goal
 
-pub loop-value-init : goal.loop-value-init
-loop-value-init c = refl
+pub loop-p-init : goal.loop-p-init
+loop-p-init c = refl
 
-pub next_param-p-requires : goal.next_param-p-requires
-next_param-p-requires c = search writing
+pub next_param-requires : goal.next_param-requires
+next_param-requires c = search writing
 
-pub is_value_name-value-requires : goal.is_value_name-value-requires
-is_value_name-value-requires c = search writing
+pub is_value_name-requires : goal.is_value_name-requires
+is_value_name-requires c = search writing
 
-pub loop-value-smaller : goal.loop-value-smaller
-loop-value-smaller c = param_less c.next_param-p.ensures c.if-p.true c.if-p-2.true
+pub loop-p-smaller : goal.loop-p-smaller
+loop-p-smaller c = param_less c.next_param.ensures (c.in-Ok-Some.is ∙ ap Ok c.in-Ok-Some.field-0-is)
 
-pub loop-value-preserved : goal.loop-value-preserved
-loop-value-preserved c = only_more c.requires c.loop-value.invariant c.next_param-p.ensures c.if-p.true c.if-p-2.true c.is_value_name-value.ensures c.if-value.true
+pub loop-p-preserved : goal.loop-p-preserved
+loop-p-preserved c = only_more c.requires c.loop-p.invariant c.next_param.ensures (c.in-Ok-Some.is ∙ ap Ok c.in-Ok-Some.field-0-is) c.is_value_name.ensures c.if-not-is_value_name.false
 
-pub returns-else-value : goal.returns-else-value
-returns-else-value c = only_stop c.requires c.loop-value.invariant c.next_param-p.ensures c.if-p.true c.if-p-2.true c.is_value_name-value.ensures c.if-value.false
+pub returns-then-not-is_value_name : goal.returns-then-not-is_value_name
+returns-then-not-is_value_name c = only_stop c.requires c.loop-p.invariant c.next_param.ensures (c.in-Ok-Some.is ∙ ap Ok c.in-Ok-Some.field-0-is) c.is_value_name.ensures c.if-not-is_value_name.true
 
-pub returns-else-p-2 : goal.returns-else-p-2
-returns-else-p-2 c = only_fault c.requires c.loop-value.invariant c.next_param-p.ensures c.if-p.true c.if-p-2.false
+pub returns-in_default : goal.returns-in_default
+returns-in_default c = let e : c.in_default.field-0 ≡ None = search rules in only_over c.requires c.loop-p.invariant c.next_param.ensures (c.in_default.is ∙ ap Ok e)
 
-pub returns-else-p : goal.returns-else-p
-returns-else-p c = only_over c.requires c.loop-value.invariant c.next_param-p.ensures c.if-p.false
+pub returns-in_default-2 : goal.returns-in_default-2
+returns-in_default-2 c = only_fault c.requires c.loop-p.invariant c.next_param.ensures c.in_default.is

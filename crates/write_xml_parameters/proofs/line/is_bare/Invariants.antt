@@ -10,8 +10,8 @@ use Rattle.write_xml_parameters.specs.laws.Walk.{only_more, only_stop, only_over
 use Rattle.sink.specs.laws.Sink.{writing}
 use Rattle.write_xml_parameters.proofs.line.is_bare.Given as goal
 
-abbrev pub invariant-loop-value : goal.invariant-loop-value
-invariant-loop-value l = is_empty (own_parameters (params_at l.mode l.s l.at)) ≡ is_empty (own_parameters (params_at l.mode l.s l.c))
+abbrev pub invariant-loop-p : goal.invariant-loop-p
+invariant-loop-p l = is_empty (own_parameters (params_at l.mode l.s l.at)) ≡ is_empty (own_parameters (params_at l.mode l.s l.c))
 
-abbrev pub decreases-loop-value : goal.decreases-loop-value
-decreases-loop-value l = 4 * length l.s - l.c
+abbrev pub decreases-loop-p : goal.decreases-loop-p
+decreases-loop-p l = 4 * length l.s - l.c

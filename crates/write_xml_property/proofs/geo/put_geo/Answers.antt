@@ -6,20 +6,11 @@ use Rattle.write_xml_property.proofs.geo.put_geo.Goals as goal
 pub read_geo-requires : goal.read_geo-requires
 read_geo-requires c = search writing
 
-pub enum_known-g : goal.enum_known-g
-enum_known-g c = search writing
-
-pub enum_told-1 : goal.enum_told-1
-enum_told-1 c = search writing
-
 pub returns-in_default : goal.returns-in_default
 returns-in_default c = search (put_no_geo, writing)
 
 pub put_coordinates-requires : goal.put_coordinates-requires
 put_coordinates-requires c = search writing
-
-pub shape_of-out : goal.shape_of-out
-shape_of-out c = search writing
 
 pub returns : goal.returns
 returns c = search (put_geo, writing)

@@ -4,29 +4,20 @@ use Rattle.sink.specs.laws.Sink.{writing}
 use Rattle.write_xml_property.specs.laws.Shown.{put_shown, put_no_values}
 use Rattle.write_xml_property.proofs.shown.put_values.Goals as goal
 
-pub component_place-a-requires : goal.component_place-a-requires
-component_place-a-requires c = search writing
+pub component_place-requires : goal.component_place-requires
+component_place-requires c = search writing
 
-pub type_place-u-requires : goal.type_place-u-requires
-type_place-u-requires c = search writing
+pub type_place-requires : goal.type_place-requires
+type_place-requires c = search writing
 
 pub read_values-requires : goal.read_values-requires
 read_values-requires c = search writing
 
-pub enum_known-n : goal.enum_known-n
-enum_known-n c = search writing
-
-pub enum_told-1 : goal.enum_told-1
-enum_told-1 c = search writing
-
-pub returns-in_default : goal.returns-in_default
-returns-in_default c = let a = c.args in λ w e. put_no_values a.c.component a.c.row a.c.value_type _ _ _ c.component_place-a.ensures c.type_place-u.ensures c.read_values.ensures w e c.in_default.is (search rules)
+pub returns-in-None : goal.returns-in-None
+returns-in-None c = let a = c.args in λ w e. put_no_values a.c.component a.c.row a.c.value_type _ _ _ c.component_place.ensures c.type_place.ensures c.read_values.ensures w e c.in-None.is (search rules)
 
 pub put_shown-requires : goal.put_shown-requires
 put_shown-requires c = search writing
 
-pub shape_of-out : goal.shape_of-out
-shape_of-out c = search writing
-
-pub returns : goal.returns
-returns c = let a = c.args in λ w e. put_shown a.c.component a.c.row a.c.value_type _ _ _ c.component_place-a.ensures c.type_place-u.ensures c.read_values.ensures w e _ c.in-Good.is c.put_shown.ensures
+pub returns-in-Some : goal.returns-in-Some
+returns-in-Some c = let a = c.args in λ w e. put_shown a.c.component a.c.row a.c.value_type _ _ _ c.component_place.ensures c.type_place.ensures c.read_values.ensures w e _ c.in-Some.is c.put_shown.ensures

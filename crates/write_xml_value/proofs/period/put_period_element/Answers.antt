@@ -3,23 +3,14 @@ use Rattle.sink.specs.laws.Sink.{writing}
 use Rattle.write_xml_value.specs.laws.PutPeriod.{put_period, put_no_period}
 use Rattle.write_xml_value.proofs.period.put_period_element.Goals as goal
 
-pub read_period-r-requires : goal.read_period-r-requires
-read_period-r-requires c = search writing
-
-pub enum_known-r : goal.enum_known-r
-enum_known-r c = search writing
+pub read_period-requires : goal.read_period-requires
+read_period-requires c = search writing
 
 pub put_period_xml-requires : goal.put_period_xml-requires
 put_period_xml-requires c = search writing
 
-pub enum_told-1 : goal.enum_told-1
-enum_told-1 c = search writing
+pub returns-in-Some : goal.returns-in-Some
+returns-in-Some c = put_period _ c.read_period.ensures c.in-Some.is c.put_period_xml.ensures
 
-pub shape_of-out : goal.shape_of-out
-shape_of-out c = search writing
-
-pub returns-in-Between : goal.returns-in-Between
-returns-in-Between c = put_period _ c.read_period-r.ensures c.in-Between.is c.put_period_xml.ensures
-
-pub returns-in-NoPeriod : goal.returns-in-NoPeriod
-returns-in-NoPeriod c = put_no_period _ c.read_period-r.ensures c.in-NoPeriod.is (search writing)
+pub returns-in-None : goal.returns-in-None
+returns-in-None c = put_no_period _ c.read_period.ensures c.in-None.is (search writing)

@@ -2,7 +2,7 @@
 use Prim.Native.Nat.{◌-◌}
 use Rattle.source.specs.Source.{rest}
 use Rattle.octets.specs.Words.{cut_at}
-use Rattle.write_xml_value.specs.laws.PutRule.{put_standing, Naming, naming_start, naming_more, naming_end}
+use Rattle.write_xml_value.specs.laws.PutRule.{put_standing, begins_inside, Naming, naming_start, naming_more, naming_end}
 use Rattle.sink.specs.laws.Sink.{writing}
 use Rattle.write_xml_value.proofs.rule.put_parts_xml.Goals as goal
 
@@ -16,7 +16,7 @@ pub bounds-begins-p : goal.bounds-begins-p
 bounds-begins-p c = search writing
 
 pub put_part_xml-q-requires : goal.put_part_xml-q-requires
-put_part_xml-q-requires c = (c.requires.0, c.requires.1.inside _)
+put_part_xml-q-requires c = (c.requires.0, begins_inside c.requires.1 _)
 
 pub overflow_add-p : goal.overflow_add-p
 overflow_add-p c = search writing

@@ -3,17 +3,14 @@ use Rattle.write_xml_value.specs.laws.PutElement.{put_recur, put_no_recur}
 use Rattle.sink.specs.laws.Sink.{writing}
 use Rattle.write_xml_value.proofs.value.put_recur_element.Goals as goal
 
-pub read_parts-r-requires : goal.read_parts-r-requires
-read_parts-r-requires c = search writing
+pub read_parts-requires : goal.read_parts-requires
+read_parts-requires c = search writing
 
 pub put_recur_xml-requires : goal.put_recur_xml-requires
-put_recur_xml-requires c = (c.requires, c.read_parts-r.ensures.standing c.if-r.true)
+put_recur_xml-requires c = (c.requires, c.read_parts.ensures.standing _ c.in-Some.is)
 
-pub shape_of-out-then-r : goal.shape_of-out-then-r
-shape_of-out-then-r c = search writing
+pub returns-in-Some : goal.returns-in-Some
+returns-in-Some c = put_recur c.read_parts.ensures c.in-Some.is c.put_recur_xml.ensures
 
-pub returns-then-r : goal.returns-then-r
-returns-then-r c = put_recur c.read_parts-r.ensures c.if-r.true c.put_recur_xml.ensures
-
-pub returns : goal.returns
-returns c = put_no_recur c.read_parts-r.ensures c.if-r.false (search writing)
+pub returns-in-None : goal.returns-in-None
+returns-in-None c = put_no_recur c.read_parts.ensures c.in-None.is (search writing)

@@ -1,9 +1,0 @@
--- `json_text::without_innermost` meets its contract. Assumes nothing.
-use Rattle.octets.specs.laws.Pick.{branching}
-use Rattle.json_text.proofs.without_innermost.Goals as goal
-
-pub returns-then-n-lt2 : goal.returns-then-n-lt2
-returns-then-n-lt2 c = search branching
-
-pub returns : goal.returns
-returns c = search branching

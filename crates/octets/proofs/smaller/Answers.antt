@@ -1,9 +1,0 @@
--- `octets::smaller` meets its contract.
-use native.Mathlib.Omega.{arith}
-use Rattle.octets.proofs.smaller.Goals as goal
-
-pub returns-then-a-b : goal.returns-then-a-b
-returns-then-a-b c = omega arith
-
-pub returns : goal.returns
-returns c = omega arith

@@ -1,0 +1,2 @@
+-- The refusals that code names.
+pub mod Fault
