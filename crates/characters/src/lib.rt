@@ -6,18 +6,18 @@ ghost use Rattle.source.specs.Source.{rest};
 ghost use Rattle.utf8.specs.Utf8.{first_bad};
 
 use octets::unit::END;
-use source::unit;
+use source::{Encoding, unit};
 use utf8::{at_start, end, read};
 
-// The same in any encoding, a byte at a time.
-fn first_met(mode: usize, s: &[u8]) -> Option<usize>
-    ensures { result ≡ first_bad (rest mode s.now 0) }
+// The number of the first byte of the first sequence that is no character that an input may hold.
+pub fn first_bad<E: Encoding>(s: &[u8]) -> Option<usize>
+    ensures { result ≡ first_bad (rest E.encoding s.now 0) }
 {
     let mut st = at_start();
     let mut i = 0;
     let mut c = 0;
     loop {
-        let x = unit(mode, s, c);
+        let x = unit::<E>(s, c);
         if x.u < END {
             st = read(st, i, x.u as u8);
             i += 1;
@@ -28,25 +28,14 @@ fn first_met(mode: usize, s: &[u8]) -> Option<usize>
     }
 }
 
-// The number of the first byte of the first sequence that is no character that an input may hold.
-pub fn first_bad(mode: usize, s: &[u8]) -> Option<usize>
-    ensures { result ≡ first_bad (rest mode s.now 0) }
-{
-    if mode == 0 {
-        utf8::first_bad(s)
-    } else {
-        first_met(mode, s)
-    }
-}
-
 // How many bytes there are from the cursor `from` on.
-pub fn count_from(mode: usize, s: &[u8], from: usize) -> usize
-    ensures { result ≡ length (rest mode s.now from) }
+pub fn count_from<E: Encoding>(s: &[u8], from: usize) -> usize
+    ensures { result ≡ length (rest E.encoding s.now from) }
 {
     let mut n = 0;
     let mut c = from;
     loop {
-        let x = unit(mode, s, c);
+        let x = unit::<E>(s, c);
         if x.u == END {
             return n;
         }

@@ -3,10 +3,10 @@ ghost use Rattle.std.specs.Prelude.{◌<◌, ◌≤◌};
 
 use crate::compare::compare;
 use crate::numbers::{number_at, swap};
+use source::Encoding;
 
 // Of the two children of the place `i` the one whose word comes later; at least `n` where there is none below `n`.
-fn later_child(
-    mode: usize,
+fn later_child<E: Encoding>(
     s: &[u8],
     from: &[u16],
     to: &[u16],
@@ -19,7 +19,7 @@ fn later_child(
 {
     let l = 2 * i + 1;
     let m = l + 1;
-    if m < n && compare(mode, s, from, to, number_at(order, l), number_at(order, m)) == 1 {
+    if m < n && compare::<E>(s, from, to, number_at(order, l), number_at(order, m)) == 1 {
         m
     } else {
         l
@@ -27,13 +27,13 @@ fn later_child(
 }
 
 // Moves the number at the place `start` down to where no child's word comes later, among the first `n`.
-fn sift(mode: usize, s: &[u8], from: &[u16], to: &[u16], order: &mut [u16], start: usize, n: usize)
+fn sift<E: Encoding>(s: &[u8], from: &[u16], to: &[u16], order: &mut [u16], start: usize, n: usize)
     requires { n ≤ 65536 }
 {
     let mut i = start;
     while i < n {
-        let j = later_child(mode, s, from, to, order, i, n);
-        if n <= j || compare(mode, s, from, to, number_at(order, i), number_at(order, j)) != 1 {
+        let j = later_child::<E>(s, from, to, order, i, n);
+        if n <= j || compare::<E>(s, from, to, number_at(order, i), number_at(order, j)) != 1 {
             return;
         }
         swap(order, i, j);
@@ -42,25 +42,25 @@ fn sift(mode: usize, s: &[u8], from: &[u16], to: &[u16], order: &mut [u16], star
 }
 
 // No child's word comes later than its parent's.
-fn make_heap(mode: usize, s: &[u8], from: &[u16], to: &[u16], order: &mut [u16], n: usize)
+fn make_heap<E: Encoding>(s: &[u8], from: &[u16], to: &[u16], order: &mut [u16], n: usize)
     requires { n ≤ 65536 }
 {
     let mut i = n;
     while 0 < i {
         i -= 1;
-        sift(mode, s, from, to, order, i, n);
+        sift::<E>(s, from, to, order, i, n);
     }
 }
 
 // The first `n` numbers in the order of their words.
-pub fn sort(mode: usize, s: &[u8], from: &[u16], to: &[u16], order: &mut [u16], n: usize)
+pub fn sort<E: Encoding>(s: &[u8], from: &[u16], to: &[u16], order: &mut [u16], n: usize)
     requires { n ≤ 65536 }
 {
-    make_heap(mode, s, from, to, order, n);
+    make_heap::<E>(s, from, to, order, n);
     let mut m = n;
     while 0 < m {
         m -= 1;
         swap(order, 0, m);
-        sift(mode, s, from, to, order, 0, m);
+        sift::<E>(s, from, to, order, 0, m);
     }
 }

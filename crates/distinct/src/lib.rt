@@ -21,6 +21,7 @@ use heap::sort;
 use numbers::count_up;
 use order::{are_alike, is_order, put_ranks, rise};
 use pairs::are_all_apart;
+use source::Encoding;
 
 // Words that a caller collected by their cuts: how many, and whether those are all.
 #[derive(Clone, Copy, Debug, PartialEq, Eq)]
@@ -30,8 +31,7 @@ pub struct Kept {
 }
 
 // No two of the first `n` words are the same: `order` and `ranks` are room for the words' numbers in rising order, and the place of each number there.
-fn by_order(
-    mode: usize,
+fn by_order<E: Encoding>(
     s: &[u8],
     from: &[u16],
     to: &[u16],
@@ -40,30 +40,30 @@ fn by_order(
     ranks: &mut [u16],
 ) -> bool
     requires { n ≤ 65536 }
-    ensures { result ≡ distinct (listed n (word_at mode s.now from.now to.now) []) }
+    ensures { result ≡ distinct (listed n (word_at E.encoding s.now from.now to.now) []) }
 {
     count_up(order, n);
-    sort(mode, s, from, to, order, n);
+    sort::<E>(s, from, to, order, n);
     put_ranks(order, ranks, n);
-    let r = rise(mode, s, from, to, order, n);
+    let r = rise::<E>(s, from, to, order, n);
     if r < n {
-        if are_alike(mode, s, from, to, order, r, n) {
+        if are_alike::<E>(s, from, to, order, r, n) {
             return false;
         }
     } else if is_order(order, ranks, n) {
         return true;
     }
-    are_all_apart(mode, s, from, to, n)
+    are_all_apart::<E>(s, from, to, n)
 }
 
 // No two of the first `n` words are the same: the word of the number i is what stands from `from[i]` up to `to[i]`, in any case.
-pub fn are_distinct(mode: usize, s: &[u8], from: &[u16], to: &[u16], n: usize) -> bool
-    ensures { result ≡ distinct (listed n (word_at mode s.now from.now to.now) []) }
+pub fn are_distinct<E: Encoding>(s: &[u8], from: &[u16], to: &[u16], n: usize) -> bool
+    ensures { result ≡ distinct (listed n (word_at E.encoding s.now from.now to.now) []) }
 {
     if n <= 21846 {
         let mut order = [0u16; 21846];
         let mut ranks = [0u16; 21846];
-        return by_order(mode, s, from, to, n, &mut order, &mut ranks);
+        return by_order::<E>(s, from, to, n, &mut order, &mut ranks);
     }
-    are_all_apart(mode, s, from, to, n)
+    are_all_apart::<E>(s, from, to, n)
 }

@@ -6,6 +6,7 @@ ghost use Rattle.distinct.specs.Rising.{Rising, Ranked};
 
 use crate::compare::compare;
 use crate::numbers::{number_at, put_number};
+use source::Encoding;
 
 // The place of each number in the order, where that has each number once.
 pub fn put_ranks(order: &[u16], ranks: &mut [u16], n: usize) {
@@ -32,19 +33,12 @@ pub fn is_order(order: &[u16], ranks: &[u16], n: usize) -> bool
 }
 
 // How far the words rise in the order, each before the next.
-pub fn rise(mode: usize, s: &[u8], from: &[u16], to: &[u16], order: &[u16], n: usize) -> usize
-    ensures { Rising (word_at mode s.now from.now to.now) order.now result }
+pub fn rise<E: Encoding>(s: &[u8], from: &[u16], to: &[u16], order: &[u16], n: usize) -> usize
+    ensures { Rising (word_at E.encoding s.now from.now to.now) order.now result }
 {
     let mut i = 0;
     while i + 1 < n {
-        let k = compare(
-            mode,
-            s,
-            from,
-            to,
-            number_at(order, i),
-            number_at(order, i + 1),
-        );
+        let k = compare::<E>(s, from, to, number_at(order, i), number_at(order, i + 1));
         if k == 1 {
             i += 1;
         } else {
@@ -55,8 +49,7 @@ pub fn rise(mode: usize, s: &[u8], from: &[u16], to: &[u16], order: &[u16], n: u
 }
 
 // Two different numbers below `n`, neighbours in the order up to the place `i`, have the same word.
-pub fn are_alike(
-    mode: usize,
+pub fn are_alike<E: Encoding>(
     s: &[u8],
     from: &[u16],
     to: &[u16],
@@ -65,7 +58,7 @@ pub fn are_alike(
     n: usize,
 ) -> bool
     ensures { result ≡ true →
-        distinct (listed n (word_at mode s.now from.now to.now) []) ≡ false }
+        distinct (listed n (word_at E.encoding s.now from.now to.now) []) ≡ false }
 {
     if i == 0 {
         return false;
@@ -77,7 +70,7 @@ pub fn are_alike(
     }
     if p < n {
         if q < n {
-            let k = compare(mode, s, from, to, p, q);
+            let k = compare::<E>(s, from, to, p, q);
             return k == 0;
         }
     }

@@ -5,15 +5,16 @@ ghost use Rattle.distinct.specs.Listed.{word_at, listed};
 ghost use Rattle.distinct.specs.Pairs.{Again};
 
 use crate::compare::compare;
+use source::Encoding;
 
 // The word of the number `j` is that of a number below `j`.
 #[tactic(auto, using(crate::specs::laws::Pairs::pairwise))]
-fn is_again(mode: usize, s: &[u8], from: &[u16], to: &[u16], j: usize) -> bool
-    ensures { Again (word_at mode s.now from.now to.now) j result }
+fn is_again<E: Encoding>(s: &[u8], from: &[u16], to: &[u16], j: usize) -> bool
+    ensures { Again (word_at E.encoding s.now from.now to.now) j result }
 {
     let mut i = 0;
     while i < j {
-        if compare(mode, s, from, to, i, j) == 0 {
+        if compare::<E>(s, from, to, i, j) == 0 {
             return true;
         }
         i += 1;
@@ -23,12 +24,12 @@ fn is_again(mode: usize, s: &[u8], from: &[u16], to: &[u16], j: usize) -> bool
 
 // No two of the first `n` words are the same.
 #[tactic(auto, using(crate::specs::laws::Pairs::pairwise))]
-pub fn are_all_apart(mode: usize, s: &[u8], from: &[u16], to: &[u16], n: usize) -> bool
-    ensures { result ≡ distinct (listed n (word_at mode s.now from.now to.now) []) }
+pub fn are_all_apart<E: Encoding>(s: &[u8], from: &[u16], to: &[u16], n: usize) -> bool
+    ensures { result ≡ distinct (listed n (word_at E.encoding s.now from.now to.now) []) }
 {
     let mut j = 0;
     while j < n {
-        if is_again(mode, s, from, to, j) {
+        if is_again::<E>(s, from, to, j) {
             return false;
         }
         j += 1;

@@ -3,7 +3,6 @@
 #![tactic(auto)]
 
 pub mod packed;
-mod plain;
 
 ghost use Rattle.std.specs.Prelude.{◌≡◌, ◌≤◌, length};
 ghost use Rattle.octets.specs.Class.{is_name_char, upper, lower};
@@ -17,9 +16,8 @@ ghost use Rattle.names.specs.Runs.{RunEnds};
 
 use octets::unit::END;
 use octets::{is_name_char, lower_unit, upper_unit, wide};
-use plain::{is_cased_plain, name_end_plain, put_plain};
 use sink::put;
-use source::unit;
+use source::{Encoding, unit};
 
 // The case in which a word is compared or written.
 #[derive(Clone, Copy, Debug, PartialEq, Eq)]
@@ -46,20 +44,20 @@ fn cased_unit(k: Case, u: usize) -> usize
 }
 
 // A word whose cursor is `word` is at its end; one that has no cursor differs already.
-fn is_end(mode: usize, s: &[u8], word: Option<usize>) -> bool
-    ensures { result ≡ is_over mode s.now word }
+fn is_end<E: Encoding>(s: &[u8], word: Option<usize>) -> bool
+    ensures { result ≡ is_over E.encoding s.now word }
 {
     match word {
-        Some(at) => unit(mode, s, at).u == END,
+        Some(at) => unit::<E>(s, at).u == END,
         None => false,
     }
 }
 
 // The cursor in a word that goes on, in the case `k`, with the byte `t` of a table's name; `word` is that before it, as long as the two are the same.
-fn turn(k: Case, mode: usize, s: &[u8], word: Option<usize>, t: u8) -> Option<usize>
-    ensures { Turned k mode s.now word t result }
+fn turn<E: Encoding>(k: Case, s: &[u8], word: Option<usize>, t: u8) -> Option<usize>
+    ensures { Turned k E.encoding s.now word t result }
 {
-    let n = unit(mode, s, word?);
+    let n = unit::<E>(s, word?);
     if cased_unit(k, n.u) == wide(t) {
         return Some(n.next);
     }
@@ -82,8 +80,8 @@ fn name_over(table: &[u8], from: usize) -> usize
 }
 
 // The number of the word in a table of names each ended by a line feed; the number of all names where there is none.
-fn find_cased(k: Case, mode: usize, s: &[u8], at: usize, table: &[u8]) -> usize
-    ensures { result ≡ place_of (cased k (rest mode s.now at)) (names_in table.now) }
+fn find_cased<E: Encoding>(k: Case, s: &[u8], at: usize, table: &[u8]) -> usize
+    ensures { result ≡ place_of (cased k (rest E.encoding s.now at)) (names_in table.now) }
 {
     let mut name = 0;
     let mut word = Some(at);
@@ -91,14 +89,14 @@ fn find_cased(k: Case, mode: usize, s: &[u8], at: usize, table: &[u8]) -> usize
     while i < table.len() {
         let t = table[i];
         if t == b'\n' {
-            if is_end(mode, s, word) {
+            if is_end::<E>(s, word) {
                 return name;
             }
             name += 1;
             word = Some(at);
             i += 1;
         } else {
-            word = turn(k, mode, s, word, t);
+            word = turn::<E>(k, s, word, t);
             match word {
                 Some(_) => i += 1,
                 None => i = name_over(table, i + 1),
@@ -109,57 +107,51 @@ fn find_cased(k: Case, mode: usize, s: &[u8], at: usize, table: &[u8]) -> usize
 }
 
 // The number of a word, in any case in text, as it stands in XML; the number of all names where the table has none such: that is the number of an unrecognised type or part.
-pub fn find_word(xcal: bool, mode: usize, s: &[u8], at: usize, table: &[u8]) -> usize
-    ensures { result ≡ place_of (cased (case_of xcal) (rest mode s.now at)) (names_in table.now) }
+pub fn find_word<E: Encoding>(xcal: bool, s: &[u8], at: usize, table: &[u8]) -> usize
+    ensures { result ≡ place_of (cased (case_of xcal) (rest E.encoding s.now at)) (names_in table.now) }
 {
-    find_cased(case_of(xcal), mode, s, at, table)
+    find_cased::<E>(case_of(xcal), s, at, table)
 }
 
 // The word, in the case `k`, is `w`.
-fn is_cased(k: Case, mode: usize, s: &[u8], at: usize, w: &[u8]) -> bool
-    ensures { result ≡ same (cased k (rest mode s.now at)) w.now }
+fn is_cased<E: Encoding>(k: Case, s: &[u8], at: usize, w: &[u8]) -> bool
+    ensures { result ≡ same (cased k (rest E.encoding s.now at)) w.now }
 {
-    if mode == 0 {
-        return is_cased_plain(k, s, at, w);
-    }
     let mut c = at;
     let mut i = 0;
     while i < w.len() {
-        let n = unit(mode, s, c);
+        let n = unit::<E>(s, c);
         if cased_unit(k, n.u) != wide(w[i]) {
             return false;
         }
         c = n.next;
         i += 1;
     }
-    unit(mode, s, c).u == END
+    unit::<E>(s, c).u == END
 }
 
 // The word is `w` as it stands.
-pub fn is_word(mode: usize, s: &[u8], at: usize, w: &[u8]) -> bool
-    ensures { result ≡ same (rest mode s.now at) w.now }
+pub fn is_word<E: Encoding>(s: &[u8], at: usize, w: &[u8]) -> bool
+    ensures { result ≡ same (rest E.encoding s.now at) w.now }
 {
-    is_cased(Case::Kept, mode, s, at, w)
+    is_cased::<E>(Case::Kept, s, at, w)
 }
 
 // The word is `w`, which has no small letters, in any case.
-pub fn is_word_any_case(mode: usize, s: &[u8], at: usize, w: &[u8]) -> bool
-    ensures { result ≡ same (upper (rest mode s.now at)) w.now }
+pub fn is_word_any_case<E: Encoding>(s: &[u8], at: usize, w: &[u8]) -> bool
+    ensures { result ≡ same (upper (rest E.encoding s.now at)) w.now }
 {
-    is_cased(Case::Capital, mode, s, at, w)
+    is_cased::<E>(Case::Capital, s, at, w)
 }
 
 // Writes the word in the case `k`.
-fn put_cased(out: &mut [u8], o: usize, k: Case, mode: usize, s: &[u8], at: usize) -> usize
-    ensures { Put out.old out.new o result (cased k (rest mode s.now at)) }
+fn put_cased<E: Encoding>(out: &mut [u8], o: usize, k: Case, s: &[u8], at: usize) -> usize
+    ensures { Put out.old out.new o result (cased k (rest E.encoding s.now at)) }
 {
-    if mode == 0 {
-        return put_plain(out, o, k, s, at);
-    }
     let mut p = o;
     let mut c = at;
     loop {
-        let n = unit(mode, s, c);
+        let n = unit::<E>(s, c);
         if n.u == END {
             return p;
         }
@@ -169,34 +161,31 @@ fn put_cased(out: &mut [u8], o: usize, k: Case, mode: usize, s: &[u8], at: usize
     }
 }
 
-pub fn put_rest(out: &mut [u8], o: usize, mode: usize, s: &[u8], at: usize) -> usize
-    ensures { Put out.old out.new o result (rest mode s.now at) }
+pub fn put_rest<E: Encoding>(out: &mut [u8], o: usize, s: &[u8], at: usize) -> usize
+    ensures { Put out.old out.new o result (rest E.encoding s.now at) }
 {
-    put_cased(out, o, Case::Kept, mode, s, at)
+    put_cased::<E>(out, o, Case::Kept, s, at)
 }
 
-pub fn put_upper(out: &mut [u8], o: usize, mode: usize, s: &[u8], at: usize) -> usize
-    ensures { Put out.old out.new o result (upper (rest mode s.now at)) }
+pub fn put_upper<E: Encoding>(out: &mut [u8], o: usize, s: &[u8], at: usize) -> usize
+    ensures { Put out.old out.new o result (upper (rest E.encoding s.now at)) }
 {
-    put_cased(out, o, Case::Capital, mode, s, at)
+    put_cased::<E>(out, o, Case::Capital, s, at)
 }
 
-pub fn put_lower(out: &mut [u8], o: usize, mode: usize, s: &[u8], at: usize) -> usize
-    ensures { Put out.old out.new o result (lower (rest mode s.now at)) }
+pub fn put_lower<E: Encoding>(out: &mut [u8], o: usize, s: &[u8], at: usize) -> usize
+    ensures { Put out.old out.new o result (lower (rest E.encoding s.now at)) }
 {
-    put_cased(out, o, Case::Small, mode, s, at)
+    put_cased::<E>(out, o, Case::Small, s, at)
 }
 
 // The cursor after the characters of a name.
-pub fn name_end(mode: usize, s: &[u8], at: usize) -> usize
-    ensures { RunEnds is_name_char mode s.now at result }
+pub fn name_end<E: Encoding>(s: &[u8], at: usize) -> usize
+    ensures { RunEnds is_name_char E.encoding s.now at result }
 {
-    if mode == 0 {
-        return name_end_plain(s, at);
-    }
     let mut c = at;
     loop {
-        let n = unit(mode, s, c);
+        let n = unit::<E>(s, c);
         if !is_name_char(n.u) {
             return c;
         }

@@ -6,7 +6,7 @@ ghost use Rattle.names.specs.Packing.{grow_high, grow_low, Packs};
 
 use octets::unit::END;
 use octets::{upper_unit, wide};
-use source::unit;
+use source::{Encoding, unit};
 
 // The base of a number; its digits are the bytes below it.
 const BASE: u64 = 128;
@@ -42,34 +42,15 @@ fn grown(high: u64, low: u64, v: usize) -> Packed
     Packed { high: NONE, low: 0 }
 }
 
-// The number of a name, over bytes as they stand.
-fn pack_plain(s: &[u8], at: usize) -> Packed
-    ensures { Packs (upper (rest 0 s.now at)) result.high result.low }
-{
-    let mut high = 0;
-    let mut low = 1;
-    let mut c = at;
-    while c < s.len() {
-        let t = grown(high, low, upper_unit(wide(s[c])));
-        high = t.high;
-        low = t.low;
-        c += 1;
-    }
-    Packed { high, low }
-}
-
 // The number of a name.
-pub fn pack(mode: usize, s: &[u8], at: usize) -> Packed
-    ensures { Packs (upper (rest mode s.now at)) result.high result.low }
+pub fn pack<E: Encoding>(s: &[u8], at: usize) -> Packed
+    ensures { Packs (upper (rest E.encoding s.now at)) result.high result.low }
 {
-    if mode == 0 {
-        return pack_plain(s, at);
-    }
     let mut high = 0;
     let mut low = 1;
     let mut c = at;
     loop {
-        let n = unit(mode, s, c);
+        let n = unit::<E>(s, c);
         if n.u == END {
             return Packed { high, low };
         }

@@ -10,13 +10,13 @@ use Rattle.octets.specs.Front.{up_to}
 use Rattle.octets.specs.Decimal.{value}
 use Rattle.octets.specs.Reading.{provided}
 use Rattle.source.specs.Source.{rest, spell}
-use Rattle.source.specs.declared.Step.{Step}
+use Rattle.source.specs.declared.points.Unit.{Unit}
 
 abbrev pub front : Bool → List ℕ → List ℕ
 front true s = up_to is_alpha s
 front false s = s
 
-pub record Fronts (l : Bool) (m : ℕ) (s : List ℕ) (c : ℕ) (r : Step) : Type 0 where
+pub record Fronts (l : Bool) (m : ℕ) (s : List ℕ) (c : ℕ) (r : Unit) : Type 0 where
   pub is : front l (rest m s c) ≡ spell r.u (front l (rest m s r.next))
   pub small : r.u ≤ 256
   pub moved : c < r.next + r.u / 256 * 2 ^ 64

@@ -6,7 +6,7 @@ use Rattle.std.specs.Prelude.{◌≡◌, List, ℕ, ◌+◌, ◌*◌, ◌/◌, �
 use Rattle.octets.specs.Pick.{pick}
 use Rattle.octets.specs.Front.{up_to}
 use Rattle.source.specs.Source.{rest, spell}
-use Rattle.source.specs.declared.Step.{Step}
+use Rattle.source.specs.declared.points.Unit.{Unit}
 
 abbrev pub before : ℕ → List ℕ → List ℕ
 before e s = up_to (λ b. eqb b e) s
@@ -14,7 +14,7 @@ before e s = up_to (λ b. eqb b e) s
 unfoldable pub until : ℕ → ℕ → List ℕ → ℕ → List ℕ
 until e m s c = pick (eqb e 256) (rest m s c) (before e (rest m s c))
 
-pub record Turns (e m : ℕ) (s : List ℕ) (c : ℕ) (r : Step) : Type 0 where
+pub record Turns (e m : ℕ) (s : List ℕ) (c : ℕ) (r : Unit) : Type 0 where
   pub is : until e m s c ≡ spell r.u (until e m s r.next)
   pub small : r.u ≤ 256
   pub moved : c < r.next + r.u / 256 * 2 ^ 64

@@ -7,40 +7,41 @@ ghost use Rattle.numbers.specs.Boolean.{read_boolean, write_boolean};
 
 use names::{is_word, is_word_any_case};
 use sink::put_all;
+use source::Encoding;
 
 // In text: TRUE or FALSE, in any letter case.
-fn read_text(mode: usize, s: &[u8], at: usize) -> Option<bool>
-    ensures { read_boolean ical (rest mode s.now at) ≡ result }
+fn read_text<E: Encoding>(s: &[u8], at: usize) -> Option<bool>
+    ensures { read_boolean ical (rest E.encoding s.now at) ≡ result }
 {
-    if is_word_any_case(mode, s, at, b"TRUE") {
+    if is_word_any_case::<E>(s, at, b"TRUE") {
         return Some(true);
     }
-    if is_word_any_case(mode, s, at, b"FALSE") {
+    if is_word_any_case::<E>(s, at, b"FALSE") {
         return Some(false);
     }
     None
 }
 
 // In XML: true, 1, false, 0.
-fn read_xml(mode: usize, s: &[u8], at: usize) -> Option<bool>
-    ensures { read_boolean xml_format (rest mode s.now at) ≡ result }
+fn read_xml<E: Encoding>(s: &[u8], at: usize) -> Option<bool>
+    ensures { read_boolean xml_format (rest E.encoding s.now at) ≡ result }
 {
-    if is_word(mode, s, at, b"true") || is_word(mode, s, at, b"1") {
+    if is_word::<E>(s, at, b"true") || is_word::<E>(s, at, b"1") {
         return Some(true);
     }
-    if is_word(mode, s, at, b"false") || is_word(mode, s, at, b"0") {
+    if is_word::<E>(s, at, b"false") || is_word::<E>(s, at, b"0") {
         return Some(false);
     }
     None
 }
 
-pub fn read_boolean(xcal: bool, mode: usize, s: &[u8], at: usize) -> Option<bool>
-    ensures { read_boolean (format_of xcal) (rest mode s.now at) ≡ result }
+pub fn read_boolean<E: Encoding>(xcal: bool, s: &[u8], at: usize) -> Option<bool>
+    ensures { read_boolean (format_of xcal) (rest E.encoding s.now at) ≡ result }
 {
     if xcal {
-        read_xml(mode, s, at)
+        read_xml::<E>(s, at)
     } else {
-        read_text(mode, s, at)
+        read_text::<E>(s, at)
     }
 }
 

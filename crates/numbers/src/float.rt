@@ -16,6 +16,7 @@ use crate::scan::{digits_end, has_minus, only_digits, only_zeros, sign_end, unit
 use octets::is_digit;
 use octets::unit::{END, POINT, ZERO};
 use sink::put;
+use source::Encoding;
 
 // Zero is not negative. `whole` is the cursor of the first digit that counts, `fraction` that of the digits after the point.
 #[derive(Clone, Copy, Debug, PartialEq, Eq)]
@@ -26,39 +27,39 @@ pub struct Float {
 }
 
 // Digits, and digits after a point if there is one: the cursor of those after the point.
-fn read_shape(stop: usize, mode: usize, s: &[u8], at: usize) -> Option<usize>
-    ensures { Shaped stop mode s.now at result }
+fn read_shape<E: Encoding>(stop: usize, s: &[u8], at: usize) -> Option<usize>
+    ensures { Shaped stop E.encoding s.now at result }
 {
-    if !is_digit(unit_to(stop, mode, s, at).u) {
+    if !is_digit(unit_to::<E>(stop, s, at).u) {
         return None;
     }
-    let end = digits_end(stop, mode, s, at);
-    let next = unit_to(stop, mode, s, end);
+    let end = digits_end::<E>(stop, s, at);
+    let next = unit_to::<E>(stop, s, end);
     if next.u == END {
         return Some(end);
     }
     if next.u != POINT {
         return None;
     }
-    only_digits(stop, mode, s, next.next).then_some(next.next)
+    only_digits::<E>(stop, s, next.next).then_some(next.next)
 }
 
 // Whether no digit counts.
-fn is_zero(stop: usize, mode: usize, s: &[u8], whole: usize, fraction: usize) -> bool
+fn is_zero<E: Encoding>(stop: usize, s: &[u8], whole: usize, fraction: usize) -> bool
     ensures { result
-        ≡ (is_empty (front (until stop mode s.now whole))
-        and is_empty (no_trailing (until stop mode s.now fraction))) }
+        ≡ (is_empty (front (until stop E.encoding s.now whole))
+        and is_empty (no_trailing (until stop E.encoding s.now fraction))) }
 {
-    !is_digit(unit_to(stop, mode, s, whole).u) && only_zeros(stop, mode, s, fraction)
+    !is_digit(unit_to::<E>(stop, s, whole).u) && only_zeros::<E>(stop, s, fraction)
 }
 
-pub fn float_to(stop: usize, mode: usize, s: &[u8], at: usize) -> Option<Float>
-    ensures { read_float (until stop mode s.now at) ≡ option_map (float_of stop mode s.now) result }
+pub fn float_to<E: Encoding>(stop: usize, s: &[u8], at: usize) -> Option<Float>
+    ensures { read_float (until stop E.encoding s.now at) ≡ option_map (float_of stop E.encoding s.now) result }
 {
-    let first = sign_end(stop, mode, s, at);
-    let fraction = read_shape(stop, mode, s, first)?;
-    let whole = zeros_end(stop, mode, s, first);
-    let negative = !is_zero(stop, mode, s, whole, fraction) && has_minus(stop, mode, s, at);
+    let first = sign_end::<E>(stop, s, at);
+    let fraction = read_shape::<E>(stop, s, first)?;
+    let whole = zeros_end::<E>(stop, s, first);
+    let negative = !is_zero::<E>(stop, s, whole, fraction) && has_minus::<E>(stop, s, at);
     Some(Float {
         negative,
         whole,
@@ -66,22 +67,22 @@ pub fn float_to(stop: usize, mode: usize, s: &[u8], at: usize) -> Option<Float>
     })
 }
 
-pub fn read_float(mode: usize, s: &[u8], at: usize) -> Option<Float>
-    ensures { read_float (rest mode s.now at) ≡ option_map (float_of 256 mode s.now) result }
+pub fn read_float<E: Encoding>(s: &[u8], at: usize) -> Option<Float>
+    ensures { read_float (rest E.encoding s.now at) ≡ option_map (float_of 256 E.encoding s.now) result }
 {
-    float_to(END, mode, s, at)
+    float_to::<E>(END, s, at)
 }
 
 // ---- writing
 
 // The digits at the cursor.
-fn put_front(out: &mut [u8], o: usize, stop: usize, mode: usize, s: &[u8], at: usize) -> usize
-    ensures { Put out.old out.new o result (front (until stop mode s.now at)) }
+fn put_front<E: Encoding>(out: &mut [u8], o: usize, stop: usize, s: &[u8], at: usize) -> usize
+    ensures { Put out.old out.new o result (front (until stop E.encoding s.now at)) }
 {
     let mut q = o;
     let mut c = at;
     loop {
-        let t = unit_to(stop, mode, s, c);
+        let t = unit_to::<E>(stop, s, c);
         if !is_digit(t.u) {
             return q;
         }
@@ -91,11 +92,11 @@ fn put_front(out: &mut [u8], o: usize, stop: usize, mode: usize, s: &[u8], at: u
 }
 
 // The digits before the point, or 0 where there are none.
-fn put_before(out: &mut [u8], o: usize, stop: usize, mode: usize, s: &[u8], at: usize) -> usize
-    ensures { Put out.old out.new o result (or_zero (front (until stop mode s.now at))) }
+fn put_before<E: Encoding>(out: &mut [u8], o: usize, stop: usize, s: &[u8], at: usize) -> usize
+    ensures { Put out.old out.new o result (or_zero (front (until stop E.encoding s.now at))) }
 {
-    if is_digit(unit_to(stop, mode, s, at).u) {
-        return put_front(out, o, stop, mode, s, at);
+    if is_digit(unit_to::<E>(stop, s, at).u) {
+        return put_front::<E>(out, o, stop, s, at);
     }
     put(out, o, b'0')
 }
@@ -111,14 +112,14 @@ fn put_zeros(out: &mut [u8], o: usize, k: usize) -> usize
 }
 
 // The digits from the cursor on without trailing zeros: `k` zeros wait until a digit follows them.
-fn put_trimmed(out: &mut [u8], o: usize, stop: usize, mode: usize, s: &[u8], at: usize) -> usize
-    ensures { Put out.old out.new o result (no_trailing (until stop mode s.now at)) }
+fn put_trimmed<E: Encoding>(out: &mut [u8], o: usize, stop: usize, s: &[u8], at: usize) -> usize
+    ensures { Put out.old out.new o result (no_trailing (until stop E.encoding s.now at)) }
 {
     let mut q = o;
     let mut k: usize = 0;
     let mut c = at;
     loop {
-        let t = unit_to(stop, mode, s, c);
+        let t = unit_to::<E>(stop, s, c);
         if t.u == END {
             return q;
         }
@@ -142,62 +143,60 @@ fn put_waiting(out: &mut [u8], o: usize, k: usize, b: u8) -> usize
 }
 
 // A point and the digits after it, if any count.
-fn put_after(out: &mut [u8], o: usize, stop: usize, mode: usize, s: &[u8], at: usize) -> usize
-    ensures { Put out.old out.new o result (after_point (no_trailing (until stop mode s.now at))) }
+fn put_after<E: Encoding>(out: &mut [u8], o: usize, stop: usize, s: &[u8], at: usize) -> usize
+    ensures { Put out.old out.new o result (after_point (no_trailing (until stop E.encoding s.now at))) }
 {
-    if only_zeros(stop, mode, s, at) {
+    if only_zeros::<E>(stop, s, at) {
         return o;
     }
     let q = put(out, o, b'.');
-    put_trimmed(out, q, stop, mode, s, at)
+    put_trimmed::<E>(out, q, stop, s, at)
 }
 
-fn put_magnitude(
+fn put_magnitude<E: Encoding>(
     out: &mut [u8],
     o: usize,
     stop: usize,
-    mode: usize,
     s: &[u8],
     first: usize,
     after: usize,
 ) -> usize
-    ensures { Put out.old out.new o result (or_zero (front (until stop mode s.now first)) ⊕
-        after_point (no_trailing (until stop mode s.now after))) }
+    ensures { Put out.old out.new o result (or_zero (front (until stop E.encoding s.now first)) ⊕
+        after_point (no_trailing (until stop E.encoding s.now after))) }
 {
-    let q = put_before(out, o, stop, mode, s, first);
-    put_after(out, q, stop, mode, s, after)
+    let q = put_before::<E>(out, o, stop, s, first);
+    put_after::<E>(out, q, stop, s, after)
 }
 
-fn put_decimal(out: &mut [u8], o: usize, n: Float, stop: usize, mode: usize, s: &[u8]) -> usize
-    ensures { Put out.old out.new o result (write_float (float_of stop mode s.now n)) }
+fn put_decimal<E: Encoding>(out: &mut [u8], o: usize, n: Float, stop: usize, s: &[u8]) -> usize
+    ensures { Put out.old out.new o result (write_float (float_of stop E.encoding s.now n)) }
 {
     if n.negative {
         let q = put(out, o, b'-');
-        return put_magnitude(out, q, stop, mode, s, n.whole, n.fraction);
+        return put_magnitude::<E>(out, q, stop, s, n.whole, n.fraction);
     }
-    put_magnitude(out, o, stop, mode, s, n.whole, n.fraction)
+    put_magnitude::<E>(out, o, stop, s, n.whole, n.fraction)
 }
 
-pub fn put_float_to(
+pub fn put_float_to<E: Encoding>(
     out: &mut [u8],
     o: usize,
     stop: usize,
-    mode: usize,
     s: &[u8],
     at: usize,
 ) -> usize
     ensures { Put out.old out.new o result
-        (or_nothing write_float (read_float (until stop mode s.now at))) }
+        (or_nothing write_float (read_float (until stop E.encoding s.now at))) }
 {
-    let Some(n) = float_to(stop, mode, s, at) else {
+    let Some(n) = float_to::<E>(stop, s, at) else {
         return o;
     };
-    put_decimal(out, o, n, stop, mode, s)
+    put_decimal::<E>(out, o, n, stop, s)
 }
 
-pub fn put_float(out: &mut [u8], o: usize, mode: usize, s: &[u8], at: usize) -> usize
+pub fn put_float<E: Encoding>(out: &mut [u8], o: usize, s: &[u8], at: usize) -> usize
     ensures { Put out.old out.new o result
-        (or_nothing write_float (read_float (rest mode s.now at))) }
+        (or_nothing write_float (read_float (rest E.encoding s.now at))) }
 {
-    put_float_to(out, o, END, mode, s, at)
+    put_float_to::<E>(out, o, END, s, at)
 }

@@ -4,15 +4,15 @@ ghost use Rattle.numbers.specs.ReadGeo.{Parted, ReadsGeo};
 
 use crate::float::{float_to, read_float};
 use octets::unit::{END, SEMICOLON};
-use source::unit;
+use source::{Encoding, unit};
 
 // The cursor after the first byte `c` from `at` on.
-fn after_first(c: usize, mode: usize, s: &[u8], at: usize) -> Option<usize>
-    ensures { Parted c mode s.now at result }
+fn after_first<E: Encoding>(c: usize, s: &[u8], at: usize) -> Option<usize>
+    ensures { Parted c E.encoding s.now at result }
 {
     let mut i = at;
     loop {
-        let t = unit(mode, s, i);
+        let t = unit::<E>(s, i);
         if t.u == END {
             return None;
         }
@@ -24,14 +24,14 @@ fn after_first(c: usize, mode: usize, s: &[u8], at: usize) -> Option<usize>
 }
 
 // The cursor of the longitude.
-pub fn read_geo(mode: usize, s: &[u8], at: usize) -> Option<usize>
-    ensures { ReadsGeo mode s.now at result }
+pub fn read_geo<E: Encoding>(s: &[u8], at: usize) -> Option<usize>
+    ensures { ReadsGeo E.encoding s.now at result }
 {
-    let longitude = after_first(SEMICOLON, mode, s, at)?;
-    if after_first(SEMICOLON, mode, s, longitude).is_some() {
+    let longitude = after_first::<E>(SEMICOLON, s, at)?;
+    if after_first::<E>(SEMICOLON, s, longitude).is_some() {
         return None;
     }
-    float_to(SEMICOLON, mode, s, at)?;
-    read_float(mode, s, longitude)?;
+    float_to::<E>(SEMICOLON, s, at)?;
+    read_float::<E>(s, longitude)?;
     Some(longitude)
 }

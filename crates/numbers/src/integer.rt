@@ -10,7 +10,7 @@ ghost use Rattle.numbers.specs.ReadInteger.{number_in, whole_of, whole_is};
 use crate::numeral::worth;
 use octets::unit::{END, HYPHEN, PLUS};
 use sink::put;
-use source::unit;
+use source::{Encoding, unit};
 
 // Zero is not negative.
 #[derive(Clone, Copy, Debug, PartialEq, Eq)]
@@ -20,29 +20,29 @@ pub struct Integer {
 }
 
 // What the digits to the end are worth, where there is one and no other byte, and it is no more than `most`.
-fn number(mode: usize, s: &[u8], at: usize, most: usize) -> Option<u32>
+fn number<E: Encoding>(s: &[u8], at: usize, most: usize) -> Option<u32>
     requires { most ≤ 2147483648 }
-    ensures { number_in most (rest mode s.now at) ≡ result }
+    ensures { number_in most (rest E.encoding s.now at) ≡ result }
 {
-    if unit(mode, s, at).u == END {
+    if unit::<E>(s, at).u == END {
         return None;
     }
-    worth(false, most, mode, s, at)
+    worth::<E>(false, most, s, at)
 }
 
-pub fn read_integer(mode: usize, s: &[u8], at: usize) -> Option<Integer>
-    ensures { read_integer (rest mode s.now at) ≡ option_map whole_of result }
+pub fn read_integer<E: Encoding>(s: &[u8], at: usize) -> Option<Integer>
+    ensures { read_integer (rest E.encoding s.now at) ≡ option_map whole_of result }
 {
-    let sign = unit(mode, s, at);
+    let sign = unit::<E>(s, at);
     if sign.u == HYPHEN {
-        let magnitude = number(mode, s, sign.next, 2147483648)?;
+        let magnitude = number::<E>(s, sign.next, 2147483648)?;
         return Some(Integer {
             negative: 0 < magnitude,
             magnitude,
         });
     }
     let first = if sign.u == PLUS { sign.next } else { at };
-    let magnitude = number(mode, s, first, 2147483647)?;
+    let magnitude = number::<E>(s, first, 2147483647)?;
     Some(Integer {
         negative: false,
         magnitude,
@@ -80,11 +80,11 @@ pub fn put_whole(out: &mut [u8], o: usize, neg: bool, m: u32) -> usize
     put_digits(out, o, 9, m as u64)
 }
 
-pub fn put_integer(out: &mut [u8], o: usize, mode: usize, s: &[u8], at: usize) -> usize
+pub fn put_integer<E: Encoding>(out: &mut [u8], o: usize, s: &[u8], at: usize) -> usize
     ensures { Put out.old out.new o result
-        (or_nothing write_integer (read_integer (rest mode s.now at))) }
+        (or_nothing write_integer (read_integer (rest E.encoding s.now at))) }
 {
-    let Some(n) = read_integer(mode, s, at) else {
+    let Some(n) = read_integer::<E>(s, at) else {
         return o;
     };
     put_whole(out, o, n.negative, n.magnitude)

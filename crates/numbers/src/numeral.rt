@@ -5,28 +5,28 @@ ghost use Rattle.numbers.specs.Numeral.{front, Fronts, worth_to};
 
 use octets::unit::{END, ZERO};
 use octets::{is_alpha, is_digit};
-use source::{Step, unit};
+use source::{Encoding, Unit, unit};
 
 // The byte at the cursor `at`, or END at the end, which a letter is too where `letters` says so.
-pub fn front_unit(letters: bool, mode: usize, s: &[u8], at: usize) -> Step
-    ensures { Fronts letters mode s.now at result }
+pub fn front_unit<E: Encoding>(letters: bool, s: &[u8], at: usize) -> Unit
+    ensures { Fronts letters E.encoding s.now at result }
 {
-    let t = unit(mode, s, at);
+    let t = unit::<E>(s, at);
     if letters && is_alpha(t.u) {
-        return Step { u: END, next: at };
+        return Unit { u: END, next: at };
     }
     t
 }
 
 // What the digits are worth, where there are no other bytes and it is no more than `most`.
-pub fn worth(letters: bool, most: usize, mode: usize, s: &[u8], at: usize) -> Option<u32>
+pub fn worth<E: Encoding>(letters: bool, most: usize, s: &[u8], at: usize) -> Option<u32>
     requires { most ≤ 2147483648 }
-    ensures { worth_to most 0 (front letters (rest mode s.now at)) ≡ result }
+    ensures { worth_to most 0 (front letters (rest E.encoding s.now at)) ≡ result }
 {
     let mut c = at;
     let mut v: usize = 0;
     loop {
-        let t = front_unit(letters, mode, s, c);
+        let t = front_unit::<E>(letters, s, c);
         if t.u == END {
             return Some(v as u32);
         }

@@ -8,15 +8,15 @@ ghost use Rattle.numbers.specs.FloatParts.{after_digits};
 
 use octets::is_digit;
 use octets::unit::{END, HYPHEN, PLUS, ZERO};
-use source::{Step, unit};
+use source::{Encoding, Unit, unit};
 
 // The byte at the cursor; END at the byte `stop` and at the end.
-pub fn unit_to(stop: usize, mode: usize, s: &[u8], at: usize) -> Step
-    ensures { Turns stop mode s.now at result }
+pub fn unit_to<E: Encoding>(stop: usize, s: &[u8], at: usize) -> Unit
+    ensures { Turns stop E.encoding s.now at result }
 {
-    let t = unit(mode, s, at);
+    let t = unit::<E>(s, at);
     if t.u == stop {
-        return Step {
+        return Unit {
             u: END,
             next: t.next,
         };
@@ -25,12 +25,12 @@ pub fn unit_to(stop: usize, mode: usize, s: &[u8], at: usize) -> Step
 }
 
 // After the digits.
-pub fn digits_end(stop: usize, mode: usize, s: &[u8], at: usize) -> usize
-    ensures { after_digits (until stop mode s.now at) ≡ until stop mode s.now result }
+pub fn digits_end<E: Encoding>(stop: usize, s: &[u8], at: usize) -> usize
+    ensures { after_digits (until stop E.encoding s.now at) ≡ until stop E.encoding s.now result }
 {
     let mut c = at;
     loop {
-        let t = unit_to(stop, mode, s, c);
+        let t = unit_to::<E>(stop, s, c);
         if !is_digit(t.u) {
             return c;
         }
@@ -39,12 +39,12 @@ pub fn digits_end(stop: usize, mode: usize, s: &[u8], at: usize) -> usize
 }
 
 // After the zeros.
-pub fn zeros_end(stop: usize, mode: usize, s: &[u8], at: usize) -> usize
-    ensures { no_leading (until stop mode s.now at) ≡ until stop mode s.now result }
+pub fn zeros_end<E: Encoding>(stop: usize, s: &[u8], at: usize) -> usize
+    ensures { no_leading (until stop E.encoding s.now at) ≡ until stop E.encoding s.now result }
 {
     let mut c = at;
     loop {
-        let t = unit_to(stop, mode, s, c);
+        let t = unit_to::<E>(stop, s, c);
         if t.u != ZERO {
             return c;
         }
@@ -53,12 +53,12 @@ pub fn zeros_end(stop: usize, mode: usize, s: &[u8], at: usize) -> usize
 }
 
 // Zeros alone.
-pub fn only_zeros(stop: usize, mode: usize, s: &[u8], at: usize) -> bool
-    ensures { is_empty (no_trailing (until stop mode s.now at)) ≡ result }
+pub fn only_zeros<E: Encoding>(stop: usize, s: &[u8], at: usize) -> bool
+    ensures { is_empty (no_trailing (until stop E.encoding s.now at)) ≡ result }
 {
     let mut c = at;
     loop {
-        let t = unit_to(stop, mode, s, c);
+        let t = unit_to::<E>(stop, s, c);
         if t.u == END {
             return true;
         }
@@ -70,27 +70,27 @@ pub fn only_zeros(stop: usize, mode: usize, s: &[u8], at: usize) -> bool
 }
 
 // Digits alone, at least one.
-pub fn only_digits(stop: usize, mode: usize, s: &[u8], at: usize) -> bool
-    ensures { result ≡ is_digits (until stop mode s.now at) }
+pub fn only_digits<E: Encoding>(stop: usize, s: &[u8], at: usize) -> bool
+    ensures { result ≡ is_digits (until stop E.encoding s.now at) }
 {
-    if unit_to(stop, mode, s, at).u == END {
+    if unit_to::<E>(stop, s, at).u == END {
         return false;
     }
-    let end = digits_end(stop, mode, s, at);
-    unit_to(stop, mode, s, end).u == END
+    let end = digits_end::<E>(stop, s, at);
+    unit_to::<E>(stop, s, end).u == END
 }
 
-pub fn has_minus(stop: usize, mode: usize, s: &[u8], at: usize) -> bool
-    ensures { result ≡ has_minus (until stop mode s.now at) }
+pub fn has_minus<E: Encoding>(stop: usize, s: &[u8], at: usize) -> bool
+    ensures { result ≡ has_minus (until stop E.encoding s.now at) }
 {
-    unit_to(stop, mode, s, at).u == HYPHEN
+    unit_to::<E>(stop, s, at).u == HYPHEN
 }
 
 // After the sign, if there is one.
-pub fn sign_end(stop: usize, mode: usize, s: &[u8], at: usize) -> usize
-    ensures { after_sign (until stop mode s.now at) ≡ until stop mode s.now result }
+pub fn sign_end<E: Encoding>(stop: usize, s: &[u8], at: usize) -> usize
+    ensures { after_sign (until stop E.encoding s.now at) ≡ until stop E.encoding s.now result }
 {
-    let t = unit_to(stop, mode, s, at);
+    let t = unit_to::<E>(stop, s, at);
     if t.u == HYPHEN || t.u == PLUS {
         return t.next;
     }

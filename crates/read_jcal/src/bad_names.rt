@@ -14,6 +14,7 @@ use names::is_word;
 use read_jcal_parameters::{is_bad_name, names_bad};
 use read_json::Head;
 use read_json::kinds::{is_object, is_string};
+use source::JsonCharacters;
 
 // The string at `place` is a name that no property has.
 fn is_bad_property(s: &[u8], place: usize) -> bool
@@ -21,8 +22,8 @@ fn is_bad_property(s: &[u8], place: usize) -> bool
     ensures { result ≡ is_bad_property (string_at s.now place) }
 {
     is_bad_name(s, place)
-        || is_word(3, s, 2 * (place + 1), &element::BEGIN)
-        || is_word(3, s, 2 * (place + 1), &element::END)
+        || is_word::<JsonCharacters>(s, 2 * (place + 1), &element::BEGIN)
+        || is_word::<JsonCharacters>(s, 2 * (place + 1), &element::END)
 }
 
 // The element is such a name.

@@ -17,6 +17,7 @@ use read_json::kinds::{is_array, is_string};
 use read_json::{Head, container_end};
 use refusals::{Fault, Refusal};
 use schema::{complete_counts, component, component_number, may_begin};
+use source::JsonCharacters;
 
 // The component of the number `n` may stand there.
 fn may_begin_in(outer: Outer, n: usize) -> bool
@@ -40,7 +41,7 @@ fn number_at(s: &[u8], place: usize) -> usize
     requires { place < length s.now }
     ensures { result ≡ place_of (upper (string_at s.now place)) component_names }
 {
-    component_number(3, s, 2 * (place + 1))
+    component_number::<JsonCharacters>(s, 2 * (place + 1))
 }
 
 // The component of these elements, of which the first is a name; `left`, here and below: the levels that are left.

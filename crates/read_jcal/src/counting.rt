@@ -8,13 +8,14 @@ ghost use Rattle.read_jcal.specs.Counting.{action_in, ActionAt};
 use read_json::element_at;
 use read_json::kinds::is_string;
 use schema::{Action, action_named, property};
+use source::JsonCharacters;
 
 // The action that the string at `place` names.
 fn string_action(s: &[u8], place: usize) -> Option<Action>
     requires { place < length s.now }
     ensures { result ≡ action_named (string_at s.now place) }
 {
-    action_named(true, 3, s, 2 * (place + 1))
+    action_named::<JsonCharacters>(true, s, 2 * (place + 1))
 }
 
 // The same of the first element from `from` on, where it is a string.

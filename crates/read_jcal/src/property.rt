@@ -20,6 +20,7 @@ use read_jcal_value::values_read;
 use read_json::kinds::{is_object, is_string};
 use refusals::Refusal;
 use schema::{Context, Row, may_stand, property, row_of};
+use source::JsonCharacters;
 
 // A known property stands where the schema lists it.
 fn stands(k: usize, row: Row) -> bool
@@ -37,7 +38,7 @@ fn row_at(s: &[u8], place: usize) -> Row
     requires { place < length s.now }
     ensures { result ≡ row_at (place_of (upper (string_at s.now place)) property_names) }
 {
-    row_of(3, s, 2 * (place + 1))
+    row_of::<JsonCharacters>(s, 2 * (place + 1))
 }
 
 // The values of a property from `from` on, of which each is to be read.

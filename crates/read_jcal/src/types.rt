@@ -11,13 +11,14 @@ use names::find_word;
 use read_json::Head;
 use read_json::kinds::is_string;
 use schema::value_type;
+use source::JsonCharacters;
 
 // The place of the string at `place` among the words of the types.
 fn type_word(s: &[u8], place: usize) -> usize
     requires { place < length s.now }
     ensures { result ≡ place_of (string_at s.now place) type_words }
 {
-    find_word(true, 3, s, 2 * (place + 1), &table::TYPES)
+    find_word::<JsonCharacters>(true, s, 2 * (place + 1), &table::TYPES)
 }
 
 // The type that an element names.

@@ -11,13 +11,14 @@ use names::is_word;
 use read_json::kinds::{is_array, is_string};
 use read_json::{element_at, member_at};
 use schema::{parameter, parameter_number};
+use source::JsonCharacters;
 
 // The first element from `at` on is BASE64.
 fn is_first(s: &[u8], at: usize) -> bool
     ensures { result ≡ first_is (ascii "BASE64") (list_at s.now at) }
 {
     let h = element_at(s, at);
-    is_string(h.kind) && is_word(3, s, cursor_of(s, h.place), b"BASE64")
+    is_string(h.kind) && is_word::<JsonCharacters>(s, cursor_of(s, h.place), b"BASE64")
 }
 
 // The first of the values that stand from `at` on.
@@ -38,7 +39,7 @@ fn is_encoded(s: &[u8], place: usize, at: usize) -> bool
     ensures { result ≡ encoded_by (string_at s.now place) (given_at s.now at) }
 {
     let k = cursor_of(s, place);
-    parameter_number(3, s, k) == parameter::ENCODING && is_base64(s, at)
+    parameter_number::<JsonCharacters>(s, k) == parameter::ENCODING && is_base64(s, at)
 }
 
 // Such a parameter stands from `from` on.

@@ -18,6 +18,7 @@ use crate::several::are_good;
 use edition::Edition;
 use read_json::member_at;
 use schema::{Row, parameter_number, permits_parameter, value_type};
+use source::JsonCharacters;
 
 // The parameter is permitted, and its values are good.
 fn is_sound(edition: Edition, row: Row, t: usize, s: &[u8], place: usize, at: usize) -> bool
@@ -25,7 +26,7 @@ fn is_sound(edition: Edition, row: Row, t: usize, s: &[u8], place: usize, at: us
     ensures { result ≡ sound_by edition row t (string_at s.now place) (given_at s.now at) }
 {
     let k = cursor_of(s, place);
-    let q = parameter_number(3, s, k);
+    let q = parameter_number::<JsonCharacters>(s, k);
     permits_parameter(row, t, q) && are_good(edition, q, s, at)
 }
 

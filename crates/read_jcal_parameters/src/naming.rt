@@ -14,7 +14,7 @@ use octets::unit::END;
 use octets::{is_capital, is_name_char};
 use read_json::member_at;
 use read_text_line::is_carried_name;
-use source::quoted_unit;
+use source::{JsonCharacters, unit};
 
 // Each character from the cursor on is one of a name, and no capital.
 fn is_small_name(s: &[u8], at: usize) -> bool
@@ -22,7 +22,7 @@ fn is_small_name(s: &[u8], at: usize) -> bool
 {
     let mut c = at;
     loop {
-        let n = quoted_unit(s, c);
+        let n = unit::<JsonCharacters>(s, c);
         if n.u == END {
             return true;
         }
@@ -40,8 +40,8 @@ fn is_small_name(s: &[u8], at: usize) -> bool
 fn is_bad_from(s: &[u8], at: usize) -> bool
     ensures { result ≡ is_bad_name (rest 3 s.now at) }
 {
-    let n = quoted_unit(s, at);
-    n.u == END || !is_small_name(s, at) || !is_carried_name(3, s, at)
+    let n = unit::<JsonCharacters>(s, at);
+    n.u == END || !is_small_name(s, at) || !is_carried_name::<JsonCharacters>(s, at)
 }
 
 // The same of the string whose quotation mark stands at `place`.
@@ -59,7 +59,7 @@ fn is_bad_parameter(s: &[u8], place: usize) -> bool
     ensures { result ≡ is_bad_parameter_name (string_at s.now place) }
 {
     let c = cursor_of(s, place);
-    is_bad_from(s, c) || is_word(3, s, c, b"value")
+    is_bad_from(s, c) || is_word::<JsonCharacters>(s, c, b"value")
 }
 
 // A parameter from `from` on has such a name.

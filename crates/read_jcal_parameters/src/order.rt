@@ -5,7 +5,7 @@ ghost use Rattle.distinct.specs.Order.{order};
 ghost use Rattle.read_json.specs.TreeAt.{string_at};
 
 use octets::unit::END;
-use source::quoted_unit;
+use source::{JsonCharacters, unit};
 
 // The characters from two cursors on: 0 where they are the same, 1 where the first go before the second, 2 where they go behind.
 pub fn compare(s: &[u8], a: usize, b: usize) -> usize
@@ -14,8 +14,8 @@ pub fn compare(s: &[u8], a: usize, b: usize) -> usize
     let mut c = a;
     let mut d = b;
     loop {
-        let x = quoted_unit(s, c);
-        let y = quoted_unit(s, d);
+        let x = unit::<JsonCharacters>(s, c);
+        let y = unit::<JsonCharacters>(s, d);
         if x.u < y.u {
             return 1;
         }

@@ -18,18 +18,18 @@ use read_json::{element_at, element_next};
 use schema::{
     is_listed_parameter, parameter_has_words, parameter_type, read_word_of_parameter, value_type,
 };
-use source::quoted_unit;
+use source::{JsonCharacters, unit};
 use values::read_value;
 
 // TRUE or FALSE.
 fn is_truth(s: &[u8], at: usize) -> bool
     ensures { result ≡ is_read (read_truth (rest 3 s.now at)) }
 {
-    let yes = is_word(3, s, at, b"TRUE");
+    let yes = is_word::<JsonCharacters>(s, at, b"TRUE");
     if yes {
         return true;
     }
-    is_word(3, s, at, b"FALSE")
+    is_word::<JsonCharacters>(s, at, b"FALSE")
 }
 
 // A value of the type of the parameter of the number `q`: any characters where that is UNKNOWN.
@@ -43,7 +43,7 @@ fn is_of_type(q: usize, s: &[u8], at: usize) -> bool
     if t == value_type::BOOLEAN {
         return is_truth(s, at);
     }
-    read_value(true, t, 3, s, at).is_some()
+    read_value::<JsonCharacters>(true, t, s, at).is_some()
 }
 
 // A word of the closed set of the parameter of the number `q`, or a value of its type.
@@ -52,7 +52,7 @@ fn is_chosen(q: usize, s: &[u8], at: usize) -> bool
 {
     let closed = parameter_has_words(q);
     if closed {
-        return read_word_of_parameter(q, true, 3, s, at).is_some();
+        return read_word_of_parameter::<JsonCharacters>(q, true, s, at).is_some();
     }
     is_of_type(q, s, at)
 }
@@ -63,7 +63,7 @@ pub fn has_byte(b: usize, s: &[u8], at: usize) -> bool
 {
     let mut c = at;
     loop {
-        let n = quoted_unit(s, c);
+        let n = unit::<JsonCharacters>(s, c);
         let u = n.u;
         if u == END {
             return false;

@@ -24,6 +24,7 @@ use read_json::{element_at, member_at};
 use read_text_line::{put_param_name, put_param_value};
 use schema::{is_quoted_parameter, parameter_number};
 use sink::put;
+use source::JsonCharacters;
 
 // A value of the parameter of the number `q` stands between quotes.
 fn is_quoted(q: usize, s: &[u8], at: usize) -> bool
@@ -40,7 +41,7 @@ fn put_plain(out: &mut [u8], o: usize, edition: Edition, q: usize, s: &[u8], at:
     ensures { Put out.old out.new o result (plain_shown edition (row_at q) (rest 3 s.now at)) }
 {
     let quoted = is_quoted(q, s, at);
-    put_param_value(out, o, edition, quoted, 3, s, at)
+    put_param_value::<JsonCharacters>(out, o, edition, quoted, s, at)
 }
 
 // The same, with a comma before it where it is a later one.
@@ -118,8 +119,8 @@ fn put_parameter(
         (member_shown edition (string_at s.now place) (given_at s.now at)) }
 {
     let k = cursor_of(s, place);
-    let q = parameter_number(3, s, k);
-    let a = put_param_name(out, o, 3, s, k);
+    let q = parameter_number::<JsonCharacters>(s, k);
+    let a = put_param_name::<JsonCharacters>(out, o, s, k);
     put_values(out, a, edition, q, s, at)
 }
 
@@ -142,7 +143,7 @@ fn is_read(s: &[u8], place: usize, at: usize) -> bool
     ensures { result ≡ is_read_by (string_at s.now place) (given_at s.now at) }
 {
     let k = cursor_of(s, place);
-    let q = parameter_number(3, s, k);
+    let q = parameter_number::<JsonCharacters>(s, k);
     are_good(Edition::Rfc6868, q, s, at)
 }
 

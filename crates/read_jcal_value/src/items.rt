@@ -19,6 +19,7 @@ use read_json::{Head, element_at, element_next};
 use recur::item::read_item;
 use recur::part;
 use recur::rule::is_list_part;
+use source::{JsonCharacters, Plain};
 
 const NUMBERED: [u8; 14] = [0, 0, 1, 1, 1, 1, 1, 0, 1, 1, 1, 1, 1, 0];
 
@@ -27,7 +28,7 @@ pub fn part_at(s: &[u8], p: usize) -> usize
     requires { p < length s.now }
     ensures { result ≡ part_place (string_at s.now p) }
 {
-    find_word(true, 3, s, 2 * (p + 1), &table::PARTS)
+    find_word::<JsonCharacters>(true, s, 2 * (p + 1), &table::PARTS)
 }
 
 // Items of the part are numbers.
@@ -42,7 +43,7 @@ fn is_string_item(i: usize, s: &[u8], p: usize) -> bool
     requires { p < length s.now }
     ensures { result ≡ is_read (read_item xcal (get_or part_names i []) (string_at s.now p)) }
 {
-    read_item(i, true, 3, s, 2 * (p + 1)).is_some()
+    read_item::<JsonCharacters>(i, true, s, 2 * (p + 1)).is_some()
 }
 
 // The number from `p` to `n` is an item.
@@ -50,7 +51,7 @@ fn is_number_item(i: usize, s: &[u8], p: usize, n: usize) -> bool
     requires { n ≤ length s.now }
     ensures { result ≡ is_read (read_item xcal (get_or part_names i []) (word_at s.now p n)) }
 {
-    read_item(i, true, 0, &s[..n], p).is_some()
+    read_item::<Plain>(i, true, &s[..n], p).is_some()
 }
 
 // An element that must be a string.

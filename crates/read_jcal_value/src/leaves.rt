@@ -9,6 +9,7 @@ ghost use Rattle.read_jcal_value.specs.Typed.{read_integer};
 
 use crate::number::read_number;
 use schema::value_type;
+use source::{JsonCharacters, Plain};
 use values::read_value;
 
 // The string at `p` spells a value of the type of the number `t` as its XML element does.
@@ -16,7 +17,7 @@ pub fn is_string_of(t: usize, s: &[u8], p: usize) -> bool
     requires { p < length s.now }
     ensures { result ≡ is_read (read_value xcal (type_at t) (string_at s.now p)) }
 {
-    read_value(true, t, 3, s, 2 * (p + 1)).is_some()
+    read_value::<JsonCharacters>(true, t, s, 2 * (p + 1)).is_some()
 }
 
 // The string at `p` is a BINARY; white space in it is not dropped.
@@ -24,7 +25,7 @@ pub fn is_binary(s: &[u8], p: usize) -> bool
     requires { p < length s.now }
     ensures { result ≡ is_read (read_value ical BINARY (string_at s.now p)) }
 {
-    read_value(false, value_type::BINARY, 3, s, 2 * (p + 1)).is_some()
+    read_value::<JsonCharacters>(false, value_type::BINARY, s, 2 * (p + 1)).is_some()
 }
 
 // The bytes from `p` to `n` are a value of the type of the number `t`.
@@ -32,7 +33,7 @@ pub fn is_word_of(t: usize, s: &[u8], p: usize, n: usize) -> bool
     requires { n ≤ length s.now }
     ensures { result ≡ is_read (read_value xcal (type_at t) (word_at s.now p n)) }
 {
-    read_value(true, t, 0, &s[..n], p).is_some()
+    read_value::<Plain>(true, t, &s[..n], p).is_some()
 }
 
 // The number from `p` to `n` is an INTEGER.

@@ -20,13 +20,14 @@ use crate::typed::typed_read;
 use read_json::kinds::{is_array, is_string, is_there};
 use read_json::{Head, element_at, element_next};
 use schema::{Context, has_words, permits_type, property, read_word_of};
+use source::JsonCharacters;
 
 // The string at `q` is a word of the closed set of a property in a component.
 fn is_word(k: usize, p: usize, s: &[u8], q: usize) -> bool
     requires { q < length s.now }
     ensures { result ≡ is_read (read_word_in (words_at k p) (string_at s.now q)) }
 {
-    read_word_of(k, p, true, 3, s, 2 * (q + 1)).is_some()
+    read_word_of::<JsonCharacters>(k, p, true, s, 2 * (q + 1)).is_some()
 }
 
 fn word_read(k: usize, p: usize, s: &[u8], h: Head) -> bool

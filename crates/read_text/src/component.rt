@@ -15,33 +15,33 @@ use edition::Edition;
 use read_text_line::line_end;
 use refusals::{Fault, Refusal};
 use schema::{Action, bump, complete_counts, method_for, property};
+use source::Cuttable;
 
 // The line at a place in the component of the number `k`, whose name stands in `name` from `v` on; `left`, the levels that are left in it;
 // `inner`, whether a subcomponent has come.
-fn next_line(
+fn next_line<E: Cuttable>(
     edition: Edition,
     k: usize,
     name: &[u8],
     v: usize,
     left: usize,
     inner: bool,
-    mode: usize,
     s: &[u8],
     at: usize,
 ) -> Turn
-    requires { (k ≡ place_of (upper (rest mode name.now v)) component_names)
-        × Ready mode s.now at
+    requires { (k ≡ place_of (upper (rest E.encoding name.now v)) component_names)
+        × Ready E.encoding s.now at
         × (at < length s.now) }
-    ensures { Turned edition (upper (rest mode name.now v)) (ltb 0 left) inner mode s.now at result }
+    ensures { Turned edition (upper (rest E.encoding name.now v)) (ltb 0 left) inner E.encoding s.now at result }
 {
-    let Some(ending) = line_end(mode, s, at) else {
+    let Some(ending) = line_end::<E>(s, at) else {
         return Turn {
             kind: Err(Refusal::Line.at(at)),
             end: s.len(),
             next: s.len(),
         };
     };
-    let kind = line_kind(edition, k, name, v, left, inner, mode, &s[..ending.end], at);
+    let kind = line_kind::<E>(edition, k, name, v, left, inner, &s[..ending.end], at);
     Turn {
         kind,
         end: ending.end,
@@ -61,9 +61,8 @@ fn action_after(p: usize, a: Option<Action>, last: Option<Action>) -> Option<Act
 
 // The component of the number `k`, whose name stands in `name` from `v` on, from the line behind its BEGIN on; `left`, the levels that are left in it;
 // `method`, whether the calendar round it has METHOD. The place behind it.
-pub fn body(
+pub fn body<E: Cuttable>(
     edition: Edition,
-    mode: usize,
     s: &[u8],
     from: usize,
     k: usize,
@@ -72,8 +71,8 @@ pub fn body(
     left: usize,
     method: bool,
 ) -> Result<usize, Fault>
-    requires { Ready mode s.now from × (k ≡ place_of (upper (rest mode name.now v)) component_names) }
-    ensures { Body edition (upper (rest mode name.now v)) left method mode s.now from result }
+    requires { Ready E.encoding s.now from × (k ≡ place_of (upper (rest E.encoding name.now v)) component_names) }
+    ensures { Body edition (upper (rest E.encoding name.now v)) left method E.encoding s.now from result }
 {
     let mut at = from;
     // One for each known property.
@@ -81,21 +80,11 @@ pub fn body(
     let mut action = None;
     let mut inner = false;
     while at < s.len() {
-        let l = next_line(edition, k, name, v, left, inner, mode, s, at);
+        let l = next_line::<E>(edition, k, name, v, left, inner, s, at);
         match l.kind? {
             Kind::Starts(n, w) => {
                 let inside = method_for(k, counts, method);
-                let next = body(
-                    edition,
-                    mode,
-                    s,
-                    l.next,
-                    n,
-                    &s[..l.end],
-                    w,
-                    left - 1,
-                    inside,
-                )?;
+                let next = body::<E>(edition, s, l.next, n, &s[..l.end], w, left - 1, inside)?;
                 inner = true;
                 at = next;
             }

@@ -14,27 +14,27 @@ ghost use Rattle.read_text_line.specs.Carried.{carries_name};
 use crate::param::next_param;
 use octets::unit::{HYPHEN, UPPER_L, UPPER_M, UPPER_X};
 use octets::{is_digit, upper_unit};
-use source::unit;
+use source::{Encoding, unit};
 
 // A digit or a hyphen is there.
-fn starts_off_name(mode: usize, s: &[u8], at: usize) -> bool
-    ensures { result ≡ starts_off_name (rest mode s.now at) }
+fn starts_off_name<E: Encoding>(s: &[u8], at: usize) -> bool
+    ensures { result ≡ starts_off_name (rest E.encoding s.now at) }
 {
-    let n = unit(mode, s, at);
+    let n = unit::<E>(s, at);
     is_digit(n.u) || n.u == HYPHEN
 }
 
 // `XML` is there, in any case.
-fn starts_xml(mode: usize, s: &[u8], at: usize) -> bool
-    ensures { result ≡ starts (ascii "XML") (upper (rest mode s.now at)) }
+fn starts_xml<E: Encoding>(s: &[u8], at: usize) -> bool
+    ensures { result ≡ starts (ascii "XML") (upper (rest E.encoding s.now at)) }
 {
-    let x = unit(mode, s, at);
+    let x = unit::<E>(s, at);
     let xu = upper_unit(x.u);
     if xu == UPPER_X {
-        let m = unit(mode, s, x.next);
+        let m = unit::<E>(s, x.next);
         let mu = upper_unit(m.u);
         if mu == UPPER_M {
-            let l = unit(mode, s, m.next);
+            let l = unit::<E>(s, m.next);
             let lu = upper_unit(l.u);
             return lu == UPPER_L;
         }
@@ -44,19 +44,19 @@ fn starts_xml(mode: usize, s: &[u8], at: usize) -> bool
 }
 
 // The name that stands from the cursor on, whatever follows it, can be carried.
-pub fn is_carried_name(mode: usize, s: &[u8], at: usize) -> bool
-    ensures { result ≡ is_carried_name (rest mode s.now at) }
+pub fn is_carried_name<E: Encoding>(s: &[u8], at: usize) -> bool
+    ensures { result ≡ is_carried_name (rest E.encoding s.now at) }
 {
-    !starts_off_name(mode, s, at) && !starts_xml(mode, s, at)
+    !starts_off_name::<E>(s, at) && !starts_xml::<E>(s, at)
 }
 
 // The names of all parameters from the cursor on can be carried.
-fn params_carried(mode: usize, s: &[u8], at: usize) -> bool
-    ensures { result ≡ every carries_name (params_at mode s.now at) }
+fn params_carried<E: Encoding>(s: &[u8], at: usize) -> bool
+    ensures { result ≡ every carries_name (params_at E.encoding s.now at) }
 {
     let mut c = at;
-    while let Ok(Some(p)) = next_param(mode, s, c) {
-        if !is_carried_name(mode, s, p.name) {
+    while let Ok(Some(p)) = next_param::<E>(s, c) {
+        if !is_carried_name::<E>(s, p.name) {
             return false;
         }
         c = p.next;
@@ -65,10 +65,10 @@ fn params_carried(mode: usize, s: &[u8], at: usize) -> bool
 }
 
 // The name of the line, and those of its parameters, which stand from `e` on, can be carried.
-pub fn names_carried(mode: usize, s: &[u8], at: usize, e: usize) -> bool
+pub fn names_carried<E: Encoding>(s: &[u8], at: usize, e: usize) -> bool
     ensures { result
-        ≡ (is_carried_name (run_of is_name_char (rest mode s.now at))
-        and every carries_name (params_at mode s.now e)) }
+        ≡ (is_carried_name (run_of is_name_char (rest E.encoding s.now at))
+        and every carries_name (params_at E.encoding s.now e)) }
 {
-    is_carried_name(mode, s, at) && params_carried(mode, s, e)
+    is_carried_name::<E>(s, at) && params_carried::<E>(s, e)
 }

@@ -6,16 +6,16 @@ ghost use Rattle.source.specs.Source.{rest};
 use edition::{Edition, put_encoded_byte};
 use names::put_rest;
 use octets::unit::END;
-use source::unit;
+use source::{Encoding, unit};
 
 // With carets.
-fn put_carets(out: &mut [u8], at: usize, mode: usize, s: &[u8], from: usize) -> usize
-    ensures { Put out.old out.new at result (encoding (rest mode s.now from)) }
+fn put_carets<E: Encoding>(out: &mut [u8], at: usize, s: &[u8], from: usize) -> usize
+    ensures { Put out.old out.new at result (encoding (rest E.encoding s.now from)) }
 {
     let mut o = at;
     let mut c = from;
     loop {
-        let t = unit(mode, s, c);
+        let t = unit::<E>(s, c);
         let u = t.u;
         if u == END {
             return o;
@@ -26,18 +26,17 @@ fn put_carets(out: &mut [u8], at: usize, mode: usize, s: &[u8], from: usize) -> 
 }
 
 // The characters from the cursor `from` to the end of the source.
-pub fn put_encoded(
+pub fn put_encoded<E: Encoding>(
     out: &mut [u8],
     at: usize,
     edition: Edition,
-    mode: usize,
     s: &[u8],
     from: usize,
 ) -> usize
-    ensures { Put out.old out.new at result (encode edition (rest mode s.now from)) }
+    ensures { Put out.old out.new at result (encode edition (rest E.encoding s.now from)) }
 {
     match edition {
-        Edition::Rfc5545 => put_rest(out, at, mode, s, from),
-        Edition::Rfc6868 => put_carets(out, at, mode, s, from),
+        Edition::Rfc5545 => put_rest::<E>(out, at, s, from),
+        Edition::Rfc6868 => put_carets::<E>(out, at, s, from),
     }
 }

@@ -5,7 +5,7 @@ use crate::LineEnding;
 use octets::find::find_return;
 use octets::unit::{CR, END, LF};
 use octets::wide;
-use source::{settled, unit};
+use source::{Cut, Encoding, unit};
 
 // Where the line at `from` ends, over bytes as they stand.
 fn line_end_plain(s: &[u8], from: usize) -> Option<LineEnding>
@@ -32,22 +32,22 @@ fn line_end_plain(s: &[u8], from: usize) -> Option<LineEnding>
 }
 
 // Where the line at `from` ends; none where no CRLF follows it.
-pub fn line_end(mode: usize, s: &[u8], from: usize) -> Option<LineEnding>
-    ensures { EndsLine mode s.now from result }
+pub fn line_end<E: Encoding>(s: &[u8], from: usize) -> Option<LineEnding>
+    ensures { EndsLine E.encoding s.now from result }
 {
-    if mode == 0 {
+    if let Some(Cut::Plain) = E::cut() {
         return line_end_plain(s, from);
     }
     let mut c = from;
     loop {
-        let n = unit(mode, s, c);
+        let n = unit::<E>(s, c);
         if n.u == END {
             return None;
         } else {
             if n.u == CR {
-                let k = unit(mode, s, n.next);
+                let k = unit::<E>(s, n.next);
                 if k.u == LF {
-                    let next = settled(mode, s, k.next);
+                    let next = E::settled(s, k.next);
                     return Some(LineEnding { end: c, next });
                 } else {
                     c = n.next;

@@ -6,16 +6,16 @@ use crate::runs::run_end;
 use crate::{Chars, LineCursors};
 use names::name_end;
 use octets::unit::{COLON, END};
-use source::unit;
+use source::{Encoding, unit};
 
 // A colon and the value, behind the parameters: the cursor of the value.
-fn value_at(mode: usize, s: &[u8], at: usize) -> Option<usize>
-    ensures { TailAt mode s.now at result }
+fn value_at<E: Encoding>(s: &[u8], at: usize) -> Option<usize>
+    ensures { TailAt E.encoding s.now at result }
 {
-    let n = unit(mode, s, at);
+    let n = unit::<E>(s, at);
     if n.u == COLON {
-        let to = run_end(Chars::Valued, mode, s, n.next);
-        let z = unit(mode, s, to);
+        let to = run_end::<E>(Chars::Valued, s, n.next);
+        let z = unit::<E>(s, to);
         if z.u == END {
             return Some(n.next);
         }
@@ -24,17 +24,17 @@ fn value_at(mode: usize, s: &[u8], at: usize) -> Option<usize>
 }
 
 // The content line that stands from the cursor on, if it is one.
-pub fn line_at(mode: usize, s: &[u8], at: usize) -> Option<LineCursors>
-    ensures { LineAt mode s.now at result }
+pub fn line_at<E: Encoding>(s: &[u8], at: usize) -> Option<LineCursors>
+    ensures { LineAt E.encoding s.now at result }
 {
-    if no_name(mode, s, at) {
+    if no_name::<E>(s, at) {
         return None;
     }
-    let parameters = name_end(mode, s, at);
-    let Ok(next) = next_params(mode, s, parameters) else {
+    let parameters = name_end::<E>(s, at);
+    let Ok(next) = next_params::<E>(s, parameters) else {
         return None;
     };
-    let value = value_at(mode, s, next)?;
+    let value = value_at::<E>(s, next)?;
     Some(LineCursors {
         name: at,
         parameters,

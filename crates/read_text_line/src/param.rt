@@ -14,24 +14,24 @@ use crate::{Malformed, ParameterCursors};
 use names::name_end;
 use octets::is_name_char;
 use octets::unit::{EQUALS, SEMICOLON};
-use source::unit;
+use source::{Encoding, unit};
 
 // No name is there.
-pub fn no_name(mode: usize, s: &[u8], at: usize) -> bool
-    ensures { result ≡ is_empty (run_of is_name_char (rest mode s.now at)) }
+pub fn no_name<E: Encoding>(s: &[u8], at: usize) -> bool
+    ensures { result ≡ is_empty (run_of is_name_char (rest E.encoding s.now at)) }
 {
-    let n = unit(mode, s, at);
+    let n = unit::<E>(s, at);
     !is_name_char(n.u)
 }
 
 // Behind the semicolon, where a name is there.
-fn named_param(mode: usize, s: &[u8], at: usize) -> Result<ParameterCursors, Malformed>
-    ensures { ParamOf named_param mode s.now at (there result) }
+fn named_param<E: Encoding>(s: &[u8], at: usize) -> Result<ParameterCursors, Malformed>
+    ensures { ParamOf named_param E.encoding s.now at (there result) }
 {
-    let end = name_end(mode, s, at);
-    let n = unit(mode, s, end);
+    let end = name_end::<E>(s, at);
+    let n = unit::<E>(s, end);
     if n.u == EQUALS {
-        let next = values(mode, s, n.next)?;
+        let next = values::<E>(s, n.next)?;
         return Ok(ParameterCursors {
             name: at,
             end,
@@ -43,33 +43,33 @@ fn named_param(mode: usize, s: &[u8], at: usize) -> Result<ParameterCursors, Mal
 }
 
 // Behind the semicolon.
-fn param_at(mode: usize, s: &[u8], at: usize) -> Result<ParameterCursors, Malformed>
-    ensures { ParamOf param mode s.now at (there result) }
+fn param_at<E: Encoding>(s: &[u8], at: usize) -> Result<ParameterCursors, Malformed>
+    ensures { ParamOf param E.encoding s.now at (there result) }
 {
-    if no_name(mode, s, at) {
+    if no_name::<E>(s, at) {
         return Err(Malformed);
     }
-    named_param(mode, s, at)
+    named_param::<E>(s, at)
 }
 
 // A semicolon and a parameter, if a semicolon is there.
-pub fn next_param(mode: usize, s: &[u8], at: usize) -> Result<Option<ParameterCursors>, Malformed>
-    ensures { ParamOf next_param mode s.now at result }
+pub fn next_param<E: Encoding>(s: &[u8], at: usize) -> Result<Option<ParameterCursors>, Malformed>
+    ensures { ParamOf next_param E.encoding s.now at result }
 {
-    let n = unit(mode, s, at);
+    let n = unit::<E>(s, at);
     if n.u == SEMICOLON {
-        let p = param_at(mode, s, n.next)?;
+        let p = param_at::<E>(s, n.next)?;
         return Ok(Some(p));
     }
     Ok(None)
 }
 
 // All parameters: the cursor behind them.
-pub fn next_params(mode: usize, s: &[u8], at: usize) -> Result<usize, Malformed>
-    ensures { AllAt next_param mode s.now at result }
+pub fn next_params<E: Encoding>(s: &[u8], at: usize) -> Result<usize, Malformed>
+    ensures { AllAt next_param E.encoding s.now at result }
 {
     let mut c = at;
-    while let Some(p) = next_param(mode, s, c)? {
+    while let Some(p) = next_param::<E>(s, c)? {
         c = p.next;
     }
     Ok(c)

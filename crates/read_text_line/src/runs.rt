@@ -6,7 +6,7 @@ ghost use Rattle.read_text_line.specs.Cursor.{in_line, char_of, RunEnds};
 
 use crate::Chars;
 use octets::unit::{COLON, COMMA, CR, END, LF, QUOTE, SEMICOLON};
-use source::{plain_unit, unit};
+use source::{Encoding, unit};
 
 fn is_break(u: usize) -> bool
     ensures { result ≡ is_line_break u }
@@ -49,32 +49,13 @@ fn is_in(k: Chars, u: usize) -> bool
     }
 }
 
-// The same over bytes as they stand.
-fn run_end_plain(k: Chars, s: &[u8], at: usize) -> usize
-    ensures { RunEnds (char_of k) 0 s.now at result }
-{
-    let mut c = at;
-    loop {
-        let n = plain_unit(s, c);
-        let part = is_in(k, n.u);
-        if part {
-            c = n.next;
-        } else {
-            return c;
-        }
-    }
-}
-
 // The cursor after the characters of a class.
-pub fn run_end(k: Chars, mode: usize, s: &[u8], at: usize) -> usize
-    ensures { RunEnds (char_of k) mode s.now at result }
+pub fn run_end<E: Encoding>(k: Chars, s: &[u8], at: usize) -> usize
+    ensures { RunEnds (char_of k) E.encoding s.now at result }
 {
-    if mode == 0 {
-        return run_end_plain(k, s, at);
-    }
     let mut c = at;
     loop {
-        let n = unit(mode, s, c);
+        let n = unit::<E>(s, c);
         let part = is_in(k, n.u);
         if part {
             c = n.next;

@@ -7,14 +7,14 @@ ghost use Rattle.read_text_line.specs.Values.{ValueAt, ValuesAt};
 use crate::runs::run_end;
 use crate::{Chars, Malformed, ValueCursors};
 use octets::unit::{COMMA, QUOTE};
-use source::unit;
+use source::{Encoding, unit};
 
 // Behind the first quote.
-fn quoted_string(mode: usize, s: &[u8], at: usize) -> Result<ValueCursors, Malformed>
-    ensures { ValueAt quoted_string mode s.now at (there result) }
+fn quoted_string<E: Encoding>(s: &[u8], at: usize) -> Result<ValueCursors, Malformed>
+    ensures { ValueAt quoted_string E.encoding s.now at (there result) }
 {
-    let to = run_end(Chars::Quoted, mode, s, at);
-    let n = unit(mode, s, to);
+    let to = run_end::<E>(Chars::Quoted, s, at);
+    let n = unit::<E>(s, to);
     if n.u == QUOTE {
         Ok(ValueCursors {
             quoted: true,
@@ -28,14 +28,14 @@ fn quoted_string(mode: usize, s: &[u8], at: usize) -> Result<ValueCursors, Malfo
 }
 
 // A value at the cursor.
-pub fn param_value(mode: usize, s: &[u8], at: usize) -> Result<ValueCursors, Malformed>
-    ensures { ValueAt param_value mode s.now at (there result) }
+pub fn param_value<E: Encoding>(s: &[u8], at: usize) -> Result<ValueCursors, Malformed>
+    ensures { ValueAt param_value E.encoding s.now at (there result) }
 {
-    let n = unit(mode, s, at);
+    let n = unit::<E>(s, at);
     if n.u == QUOTE {
-        return quoted_string(mode, s, n.next);
+        return quoted_string::<E>(s, n.next);
     }
-    let to = run_end(Chars::Safe, mode, s, at);
+    let to = run_end::<E>(Chars::Safe, s, at);
     Ok(ValueCursors {
         quoted: false,
         from: at,
@@ -45,32 +45,32 @@ pub fn param_value(mode: usize, s: &[u8], at: usize) -> Result<ValueCursors, Mal
 }
 
 // A comma and a value, if a comma is there.
-pub fn next_value(mode: usize, s: &[u8], at: usize) -> Result<Option<ValueCursors>, Malformed>
-    ensures { ValueAt next_value mode s.now at result }
+pub fn next_value<E: Encoding>(s: &[u8], at: usize) -> Result<Option<ValueCursors>, Malformed>
+    ensures { ValueAt next_value E.encoding s.now at result }
 {
-    let n = unit(mode, s, at);
+    let n = unit::<E>(s, at);
     if n.u == COMMA {
-        let v = param_value(mode, s, n.next)?;
+        let v = param_value::<E>(s, n.next)?;
         return Ok(Some(v));
     }
     Ok(None)
 }
 
 // All values that follow another: the cursor behind them.
-fn next_values(mode: usize, s: &[u8], at: usize) -> Result<usize, Malformed>
-    ensures { AllAt next_value mode s.now at result }
+fn next_values<E: Encoding>(s: &[u8], at: usize) -> Result<usize, Malformed>
+    ensures { AllAt next_value E.encoding s.now at result }
 {
     let mut c = at;
-    while let Some(v) = next_value(mode, s, c)? {
+    while let Some(v) = next_value::<E>(s, c)? {
         c = v.next;
     }
     Ok(c)
 }
 
 // All values of a parameter, from its first on: the cursor behind them.
-pub fn values(mode: usize, s: &[u8], at: usize) -> Result<usize, Malformed>
-    ensures { ValuesAt mode s.now at result }
+pub fn values<E: Encoding>(s: &[u8], at: usize) -> Result<usize, Malformed>
+    ensures { ValuesAt E.encoding s.now at result }
 {
-    let v = param_value(mode, s, at)?;
-    next_values(mode, s, v.next)
+    let v = param_value::<E>(s, at)?;
+    next_values::<E>(s, v.next)
 }

@@ -5,7 +5,7 @@ ghost use Rattle.read_text_parameters.specs.Naming.{name_unit, name_at};
 
 use octets::unit::END;
 use octets::{is_name_char, upper_unit};
-use source::unit;
+use source::{Encoding, unit};
 
 // A character of a name, as a capital; END where there is another.
 fn name_unit(u: usize) -> usize
@@ -19,14 +19,14 @@ fn name_unit(u: usize) -> usize
 }
 
 // The names from two cursors on: 0 where they are the same, 1 where the first goes before the second, 2 where it goes behind.
-pub fn compare_names(mode: usize, s: &[u8], a: usize, b: usize) -> usize
-    ensures { result ≡ order (name_at mode s.now a) (name_at mode s.now b) }
+pub fn compare_names<E: Encoding>(s: &[u8], a: usize, b: usize) -> usize
+    ensures { result ≡ order (name_at E.encoding s.now a) (name_at E.encoding s.now b) }
 {
     let mut c = a;
     let mut d = b;
     loop {
-        let x = unit(mode, s, c);
-        let y = unit(mode, s, d);
+        let x = unit::<E>(s, c);
+        let y = unit::<E>(s, d);
         let xu = name_unit(x.u);
         let yu = name_unit(y.u);
         if xu < yu {

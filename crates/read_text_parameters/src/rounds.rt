@@ -11,6 +11,7 @@ use crate::named::{NameCursors, name_at};
 use crate::order::compare_names;
 use crate::places::place_at;
 use crate::twice::put_round;
+use source::Encoding;
 
 // A round: how many names it passed, the cursor behind them, and how many of those behind it are none of them.
 #[derive(Clone, Copy)]
@@ -24,14 +25,14 @@ pub struct Round {
 const MOST: usize = 65536;
 
 // How far the names rise in the order of their places, each before the next.
-fn rise(mode: usize, s: &[u8], places: &[u16], n: usize) -> usize
-    ensures { Rising (name_at mode s.now) places.now result }
+fn rise<E: Encoding>(s: &[u8], places: &[u16], n: usize) -> usize
+    ensures { Rising (name_at E.encoding s.now) places.now result }
 {
     let mut i = 0;
     while i + 1 < n {
         let p = place_at(places, i);
         let q = place_at(places, i + 1);
-        let k = compare_names(mode, s, p, q);
+        let k = compare_names::<E>(s, p, q);
         if k == 1 {
             i += 1;
         } else {
@@ -42,7 +43,7 @@ fn rise(mode: usize, s: &[u8], places: &[u16], n: usize) -> usize
 }
 
 // How many of the first `n` names go before the one at `p`, where they rise: a search by halves.
-fn find(mode: usize, s: &[u8], places: &[u16], n: usize, p: usize) -> usize
+fn find<E: Encoding>(s: &[u8], places: &[u16], n: usize, p: usize) -> usize
     ensures { result ≤ n }
 {
     let mut low = 0;
@@ -50,7 +51,7 @@ fn find(mode: usize, s: &[u8], places: &[u16], n: usize, p: usize) -> usize
     while low < high {
         let half = low + (high - low) / 2;
         let q = place_at(places, half);
-        let k = compare_names(mode, s, q, p);
+        let k = compare_names::<E>(s, q, p);
         if k == 1 {
             low = half + 1;
         } else {
@@ -61,10 +62,10 @@ fn find(mode: usize, s: &[u8], places: &[u16], n: usize, p: usize) -> usize
 }
 
 // The place `p` is one of the first `n`.
-fn is_found(mode: usize, s: &[u8], places: &[u16], n: usize, p: usize) -> bool
+fn is_found<E: Encoding>(s: &[u8], places: &[u16], n: usize, p: usize) -> bool
     ensures { Stands places.now n p result }
 {
-    let i = find(mode, s, places, n, p);
+    let i = find::<E>(s, places, n, p);
     if i < n {
         let q = place_at(places, i);
         return q == p;
@@ -73,26 +74,26 @@ fn is_found(mode: usize, s: &[u8], places: &[u16], n: usize, p: usize) -> bool
 }
 
 // The name at the cursor `c`, if its place is one of the first `n`.
-fn held_at(mode: usize, s: &[u8], places: &[u16], n: usize, c: usize) -> Option<NameCursors>
-    ensures { HeldIf mode s.now places.now n c result }
+fn held_at<E: Encoding>(s: &[u8], places: &[u16], n: usize, c: usize) -> Option<NameCursors>
+    ensures { HeldIf E.encoding s.now places.now n c result }
 {
-    let a = name_at(mode, s, c)?;
-    if is_found(mode, s, places, n, a.name) {
+    let a = name_at::<E>(s, c)?;
+    if is_found::<E>(s, places, n, a.name) {
         return Some(a);
     }
     None
 }
 
 // The names from `from` on whose places are found, `left` of them at most; `left` is then how many more there may be.
-fn found_end(mode: usize, s: &[u8], from: usize, left: usize, places: &[u16], n: usize) -> Round
-    requires { Rising (name_at mode s.now) places.now n }
-    ensures { Found mode s.now places.now n from left result }
+fn found_end<E: Encoding>(s: &[u8], from: usize, left: usize, places: &[u16], n: usize) -> Round
+    requires { Rising (name_at E.encoding s.now) places.now n }
+    ensures { Found E.encoding s.now places.now n from left result }
 {
     let mut c = from;
     let mut k = 0;
     let mut more = left;
     while 0 < more {
-        let Some(a) = held_at(mode, s, places, n, c) else {
+        let Some(a) = held_at::<E>(s, places, n, c) else {
             return Round {
                 count: k,
                 next: c,
@@ -111,54 +112,54 @@ fn found_end(mode: usize, s: &[u8], from: usize, left: usize, places: &[u16], n:
 }
 
 // The name at `p` goes behind the last of the first `i`, if there is one.
-fn is_behind(mode: usize, s: &[u8], places: &[u16], i: usize, p: usize) -> bool
-    ensures { Behind mode s.now places.now i p result }
+fn is_behind<E: Encoding>(s: &[u8], places: &[u16], i: usize, p: usize) -> bool
+    ensures { Behind E.encoding s.now places.now i p result }
 {
     if 0 < i {
         let q = place_at(places, i - 1);
-        let k = compare_names(mode, s, q, p);
+        let k = compare_names::<E>(s, q, p);
         return k == 1;
     }
     true
 }
 
 // The name at `p` goes before that of the number `i`, if that is below `n`.
-fn is_before(mode: usize, s: &[u8], places: &[u16], n: usize, i: usize, p: usize) -> bool
-    ensures { Before mode s.now places.now n i p result }
+fn is_before<E: Encoding>(s: &[u8], places: &[u16], n: usize, i: usize, p: usize) -> bool
+    ensures { Before E.encoding s.now places.now n i p result }
 {
     if i < n {
         let q = place_at(places, i);
-        let k = compare_names(mode, s, p, q);
+        let k = compare_names::<E>(s, p, q);
         return k == 1;
     }
     true
 }
 
 // The name at `p` is none of the first `n`, which rise: it goes between two of them.
-fn is_between(mode: usize, s: &[u8], places: &[u16], n: usize, i: usize, p: usize) -> bool
-    requires { (i ≤ n) × Rising (name_at mode s.now) places.now n }
-    ensures { Apart mode s.now places.now n p result }
+fn is_between<E: Encoding>(s: &[u8], places: &[u16], n: usize, i: usize, p: usize) -> bool
+    requires { (i ≤ n) × Rising (name_at E.encoding s.now) places.now n }
+    ensures { Apart E.encoding s.now places.now n p result }
 {
-    let behind = is_behind(mode, s, places, i, p);
+    let behind = is_behind::<E>(s, places, i, p);
     if behind {
-        return is_before(mode, s, places, n, i, p);
+        return is_before::<E>(s, places, n, i, p);
     }
     false
 }
 
 // How many of the names from `from` on, `left` of them at most, are none of the first `n`, which rise.
-fn absent(mode: usize, s: &[u8], from: usize, left: usize, places: &[u16], n: usize) -> usize
-    requires { Rising (name_at mode s.now) places.now n }
-    ensures { Absent mode s.now places.now n from left result }
+fn absent<E: Encoding>(s: &[u8], from: usize, left: usize, places: &[u16], n: usize) -> usize
+    requires { Rising (name_at E.encoding s.now) places.now n }
+    ensures { Absent E.encoding s.now places.now n from left result }
 {
     let mut c = from;
     let mut k = 0;
     while k < left {
-        let Some(a) = name_at(mode, s, c) else {
+        let Some(a) = name_at::<E>(s, c) else {
             return k;
         };
-        let i = find(mode, s, places, n, a.name);
-        if !is_between(mode, s, places, n, i, a.name) {
+        let i = find::<E>(s, places, n, a.name);
+        if !is_between::<E>(s, places, n, i, a.name) {
             return k;
         }
         c = a.next;
@@ -168,10 +169,10 @@ fn absent(mode: usize, s: &[u8], from: usize, left: usize, places: &[u16], n: us
 }
 
 // The round of the names from `from` on, `left` of them at most, of which the first `n` places hold some.
-fn judge(mode: usize, s: &[u8], from: usize, left: usize, places: &[u16], n: usize) -> Round
-    ensures { Passes mode s.now from left result }
+fn judge<E: Encoding>(s: &[u8], from: usize, left: usize, places: &[u16], n: usize) -> Round
+    ensures { Passes E.encoding s.now from left result }
 {
-    let r = rise(mode, s, places, n);
+    let r = rise::<E>(s, places, n);
     if r < n {
         return Round {
             count: 0,
@@ -179,8 +180,8 @@ fn judge(mode: usize, s: &[u8], from: usize, left: usize, places: &[u16], n: usi
             left: 0,
         };
     }
-    let f = found_end(mode, s, from, left, places, n);
-    let k = absent(mode, s, f.next, f.left, places, n);
+    let f = found_end::<E>(s, from, left, places, n);
+    let k = absent::<E>(s, f.next, f.left, places, n);
     Round {
         count: f.count,
         next: f.next,
@@ -189,22 +190,22 @@ fn judge(mode: usize, s: &[u8], from: usize, left: usize, places: &[u16], n: usi
 }
 
 // The round of the names from `from` on, `left` of them at most, for which `places` is the room.
-fn pass(mode: usize, s: &[u8], from: usize, left: usize, places: &mut [u16]) -> Round
-    ensures { Passes mode s.now from left result }
+fn pass<E: Encoding>(s: &[u8], from: usize, left: usize, places: &mut [u16]) -> Round
+    ensures { Passes E.encoding s.now from left result }
 {
-    let n = put_round(mode, s, from, left, places);
-    judge(mode, s, from, left, places, n)
+    let n = put_round::<E>(s, from, left, places);
+    judge::<E>(s, from, left, places, n)
 }
 
 // The names from the cursor `e` on, up to the first that comes again: how many, and the cursor behind them. They are all different.
-pub fn pass_all(mode: usize, s: &[u8], e: usize, places: &mut [u16]) -> Round
-    ensures { Comparing mode s.now e result.count result.next }
+pub fn pass_all<E: Encoding>(s: &[u8], e: usize, places: &mut [u16]) -> Round
+    ensures { Comparing E.encoding s.now e result.count result.next }
 {
     let mut c = e;
     let mut k = 0;
     let mut left = MOST;
     while 0 < left {
-        let r = pass(mode, s, c, left, places);
+        let r = pass::<E>(s, c, left, places);
         if r.left < left {
             c = r.next;
             k += r.count;

@@ -1,7 +1,6 @@
 // All that is asked of a line's parameters, in one walk: the type that they state, or the leftmost faulty one. See specs/Walking.antt.
 ghost use Rattle.std.specs.Prelude.{◌≡◌, true, ◌+◌, ◌^◌, ◌<◌, eqb};
 ghost use Rattle.octets.specs.Pick.{◌or◌};
-ghost use Rattle.source.specs.Source.{cuts};
 ghost use Rattle.read_text_line.specs.Cursor.{params_at};
 ghost use Rattle.read_text_line.specs.Decoded.{values_in, params_in};
 ghost use Rattle.read_text_parameters.specs.Cutting.{name_cut};
@@ -21,6 +20,7 @@ use bits::{holds, insert};
 use edition::Edition;
 use read_text_line::{ParameterCursors, next_param};
 use schema::{Row, parameter, permits_parameter, value_type};
+use source::{Cuttable, Encoding};
 
 // The number of VALUE, which is none of the table's.
 const VALUE: usize = 20;
@@ -39,14 +39,14 @@ pub struct Noted {
 }
 
 // The number of a parameter's name.
-fn number_at(mode: usize, s: &[u8], name: usize, end: usize) -> usize
-    ensures { result ≡ number_of (name_cut mode s.now name end) }
+fn number_at<E: Encoding>(s: &[u8], name: usize, end: usize) -> usize
+    ensures { result ≡ number_of (name_cut E.encoding s.now name end) }
 {
-    let q = number_of(mode, s, name, end);
+    let q = number_of::<E>(s, name, end);
     if q < parameter::KNOWN {
         return q;
     }
-    let value = is_value_name(mode, s, name, end);
+    let value = is_value_name::<E>(s, name, end);
     if value {
         return VALUE;
     }
@@ -54,13 +54,12 @@ fn number_at(mode: usize, s: &[u8], name: usize, end: usize) -> usize
 }
 
 // The same with the place of the first parameter from the cursor `e` on that comes again, where there are more than a few.
-fn sought(n: Noted, mode: usize, s: &[u8], e: usize) -> Noted
-    requires { cuts mode ≡ true }
-    ensures { result ≡ sought_by n (names_of (params_at mode s.now e)) }
+fn sought<E: Cuttable>(n: Noted, s: &[u8], e: usize) -> Noted
+    ensures { result ≡ sought_by n (names_of (params_at E.encoding s.now e)) }
 {
     let k = n.count;
     if k == FEW {
-        let again = first_again(mode, s, e);
+        let again = first_again::<E>(s, e);
         return Noted {
             count: n.count,
             seen: n.seen,
@@ -72,25 +71,23 @@ fn sought(n: Noted, mode: usize, s: &[u8], e: usize) -> Noted
 }
 
 // A parameter that has no number of its own comes again.
-fn is_other_again(n: Noted, mode: usize, s: &[u8], e: usize, name: usize, end: usize) -> bool
-    requires { cuts mode ≡ true }
-    ensures { result ≡ other_again n (name_cut mode s.now name end) (names_of (params_at mode s.now e)) }
+fn is_other_again<E: Cuttable>(n: Noted, s: &[u8], e: usize, name: usize, end: usize) -> bool
+    ensures { result ≡ other_again n (name_cut E.encoding s.now name end) (names_of (params_at E.encoding s.now e)) }
 {
     let k = n.count;
     if k < FEW {
-        return stands_before(mode, s, e, k, name, end);
+        return stands_before::<E>(s, e, k, name, end);
     }
     k == n.again
 }
 
 // The parameter of the number `q` comes again.
-fn is_again(n: Noted, q: usize, mode: usize, s: &[u8], e: usize, a: ParameterCursors) -> bool
-    requires { cuts mode ≡ true }
-    ensures { result ≡ comes_again n q (name_cut mode s.now a.name a.end)
-        (names_of (params_at mode s.now e)) }
+fn is_again<E: Cuttable>(n: Noted, q: usize, s: &[u8], e: usize, a: ParameterCursors) -> bool
+    ensures { result ≡ comes_again n q (name_cut E.encoding s.now a.name a.end)
+        (names_of (params_at E.encoding s.now e)) }
 {
     if q == parameter::KNOWN {
-        return is_other_again(n, mode, s, e, a.name, a.end);
+        return is_other_again::<E>(n, s, e, a.name, a.end);
     }
     holds(n.seen, q)
 }
@@ -106,9 +103,8 @@ fn is_typed(q: usize) -> bool
 }
 
 // The type by which a parameter is judged: that of the value, which VALUE may name behind it, at the cursor `next`.
-fn type_for(edition: Edition, n: Noted, q: usize, mode: usize, s: &[u8], next: usize) -> usize
-    requires { cuts mode ≡ true }
-    ensures { result ≡ type_for q (stated_by n (params_in edition mode s.now next)) }
+fn type_for<E: Cuttable>(edition: Edition, n: Noted, q: usize, s: &[u8], next: usize) -> usize
+    ensures { result ≡ type_for q (stated_by n (params_in edition E.encoding s.now next)) }
 {
     let typed = is_typed(q);
     if typed {
@@ -117,7 +113,7 @@ fn type_for(edition: Edition, n: Noted, q: usize, mode: usize, s: &[u8], next: u
         if named {
             return t;
         }
-        let Some(u) = stated_type(edition, t, mode, s, next) else {
+        let Some(u) = stated_type::<E>(edition, t, s, next) else {
             return value_type::DURATION;
         };
         return u;
@@ -126,13 +122,12 @@ fn type_for(edition: Edition, n: Noted, q: usize, mode: usize, s: &[u8], next: u
 }
 
 // With BINARY, ENCODING is BASE64.
-fn is_encoded(edition: Edition, t: usize, q: usize, mode: usize, s: &[u8], first: usize) -> bool
-    requires { cuts mode ≡ true }
-    ensures { result ≡ encodes_by t q (values_in edition mode s.now first) }
+fn is_encoded<E: Cuttable>(edition: Edition, t: usize, q: usize, s: &[u8], first: usize) -> bool
+    ensures { result ≡ encodes_by t q (values_in edition E.encoding s.now first) }
 {
     if t == value_type::BINARY {
         if q == parameter::ENCODING {
-            return is_base64(edition, mode, s, first);
+            return is_base64::<E>(edition, s, first);
         }
         return true;
     }
@@ -140,23 +135,21 @@ fn is_encoded(edition: Edition, t: usize, q: usize, mode: usize, s: &[u8], first
 }
 
 // The parameter of the number `q` fits the property, judged by the type `t`.
-fn is_fit(
+fn is_fit<E: Cuttable>(
     edition: Edition,
     row: Row,
     t: usize,
     q: usize,
-    mode: usize,
     s: &[u8],
     first: usize,
 ) -> bool
-    requires { cuts mode ≡ true }
-    ensures { result ≡ fits_by row t q (values_in edition mode s.now first) }
+    ensures { result ≡ fits_by row t q (values_in edition E.encoding s.now first) }
 {
     let permitted = permits_parameter(row, t, q);
     if permitted {
-        let read = is_parameter(edition, q, mode, s, first);
+        let read = is_parameter::<E>(edition, q, s, first);
         if read {
-            return is_encoded(edition, t, q, mode, s, first);
+            return is_encoded::<E>(edition, t, q, s, first);
         }
         return false;
     }
@@ -164,24 +157,22 @@ fn is_fit(
 }
 
 // The type behind a parameter of the number `q`, if that is sound.
-fn type_behind(
+fn type_behind<E: Cuttable>(
     edition: Edition,
     row: Row,
     n: Noted,
     q: usize,
-    mode: usize,
     s: &[u8],
     a: ParameterCursors,
 ) -> Option<usize>
-    requires { cuts mode ≡ true }
-    ensures { NumberOf (behind_at row (stated_by n (params_in edition mode s.now a.next)) n.value_type q
-        (values_in edition mode s.now a.first)) result }
+    ensures { NumberOf (behind_at row (stated_by n (params_in edition E.encoding s.now a.next)) n.value_type q
+        (values_in edition E.encoding s.now a.first)) result }
 {
     if q == VALUE {
-        return type_in(edition, mode, s, a.first);
+        return type_in::<E>(edition, s, a.first);
     }
-    let t = type_for(edition, n, q, mode, s, a.next);
-    let fit = is_fit(edition, row, t, q, mode, s, a.first);
+    let t = type_for::<E>(edition, n, q, s, a.next);
+    let fit = is_fit::<E>(edition, row, t, q, s, a.first);
     if fit {
         return Some(n.value_type);
     }
@@ -218,15 +209,13 @@ fn ended(n: Noted) -> Result<usize, ParameterFault>
 }
 
 // The parameters from the cursor `e` on, of a property.
-pub fn read_parameters(
+pub fn read_parameters<E: Cuttable>(
     edition: Edition,
     row: Row,
-    mode: usize,
     s: &[u8],
     e: usize,
 ) -> Result<usize, ParameterFault>
-    requires { cuts mode ≡ true }
-    ensures { ParametersAt row (params_in edition mode s.now e) result }
+    ensures { ParametersAt row (params_in edition E.encoding s.now e) result }
 {
     let mut c = e;
     let mut n = Noted {
@@ -235,13 +224,13 @@ pub fn read_parameters(
         again: 0,
         value_type: row.default,
     };
-    while let Ok(Some(a)) = next_param(mode, s, c) {
-        let q = number_at(mode, s, a.name, a.end);
-        let m = sought(n, mode, s, e);
-        if is_again(m, q, mode, s, e, a) {
+    while let Ok(Some(a)) = next_param::<E>(s, c) {
+        let q = number_at::<E>(s, a.name, a.end);
+        let m = sought::<E>(n, s, e);
+        if is_again::<E>(m, q, s, e, a) {
             return Err(ParameterFault::Faulty(n.count));
         }
-        let Some(t) = type_behind(edition, row, m, q, mode, s, a) else {
+        let Some(t) = type_behind::<E>(edition, row, m, q, s, a) else {
             return Err(ParameterFault::Faulty(n.count));
         };
         n = added(m, q, t);

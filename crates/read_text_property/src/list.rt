@@ -2,7 +2,7 @@
 ghost use Rattle.std.specs.Prelude.{◌≡◌, true};
 ghost use Rattle.octets.specs.Words.{cut_at};
 ghost use Rattle.octets.specs.Reading.{is_read};
-ghost use Rattle.source.specs.Source.{rest, cuts, Within};
+ghost use Rattle.source.specs.Source.{rest, Within};
 ghost use Rattle.schema.specs.Numbers.{type_at};
 ghost use Rattle.texts.specs.TextList.{read_texts};
 ghost use Rattle.text.specs.Values.{read_listed};
@@ -12,22 +12,22 @@ ghost use Rattle.read_text_property.specs.ValuesAt.{values_read};
 use octets::unit::{COMMA, END};
 use recur::rule::byte_end;
 use schema::value_type;
-use source::unit;
+use source::{Cuttable, Encoding, unit};
 use texts::read_text;
 use values::read_value;
 
 // Each piece between commas is a value.
-fn read_pieces(t: usize, mode: usize, s: &[u8], at: usize) -> Option<usize>
-    requires { Within mode s.now at }
-    ensures { result ≡ values_read t (each_value (type_at t) (cut_at 44 (rest mode s.now at))) }
+fn read_pieces<E: Encoding>(t: usize, s: &[u8], at: usize) -> Option<usize>
+    requires { Within E.encoding s.now at }
+    ensures { result ≡ values_read t (each_value (type_at t) (cut_at 44 (rest E.encoding s.now at))) }
 {
     let mut c = at;
     loop {
-        let e = byte_end(COMMA, mode, s, c);
-        let Some(v) = read_value(false, t, mode, &s[..e], c) else {
+        let e = byte_end::<E>(COMMA, s, c);
+        let Some(v) = read_value::<E>(false, t, &s[..e], c) else {
             return None;
         };
-        let n = unit(mode, s, e);
+        let n = unit::<E>(s, e);
         if n.u == END {
             return Some(t);
         }
@@ -36,24 +36,23 @@ fn read_pieces(t: usize, mode: usize, s: &[u8], at: usize) -> Option<usize>
 }
 
 // The same from any cursor: past the end stands one empty piece.
-fn read_each(t: usize, mode: usize, s: &[u8], at: usize) -> Option<usize>
-    requires { cuts mode ≡ true }
-    ensures { result ≡ values_read t (each_value (type_at t) (cut_at 44 (rest mode s.now at))) }
+fn read_each<E: Cuttable>(t: usize, s: &[u8], at: usize) -> Option<usize>
+    ensures { result ≡ values_read t (each_value (type_at t) (cut_at 44 (rest E.encoding s.now at))) }
 {
     if at <= s.len() {
-        return read_pieces(t, mode, s, at);
+        return read_pieces::<E>(t, s, at);
     }
-    let Some(v) = read_value(false, t, mode, s, at) else {
+    let Some(v) = read_value::<E>(false, t, s, at) else {
         return None;
     };
     Some(t)
 }
 
 // A list of TEXT.
-fn read_texts(t: usize, mode: usize, s: &[u8], at: usize) -> Option<usize>
-    ensures { result ≡ values_read t (is_read (read_texts (rest mode s.now at))) }
+fn read_texts<E: Encoding>(t: usize, s: &[u8], at: usize) -> Option<usize>
+    ensures { result ≡ values_read t (is_read (read_texts (rest E.encoding s.now at))) }
 {
-    if read_text(COMMA, mode, s, at) {
+    if read_text::<E>(COMMA, s, at) {
         Some(t)
     } else {
         None
@@ -61,12 +60,11 @@ fn read_texts(t: usize, mode: usize, s: &[u8], at: usize) -> Option<usize>
 }
 
 // A list of TEXT, or of another type.
-pub fn read_listed(t: usize, mode: usize, s: &[u8], at: usize) -> Option<usize>
-    requires { cuts mode ≡ true }
-    ensures { result ≡ values_read t (is_read (read_listed (type_at t) (rest mode s.now at))) }
+pub fn read_listed<E: Cuttable>(t: usize, s: &[u8], at: usize) -> Option<usize>
+    ensures { result ≡ values_read t (is_read (read_listed (type_at t) (rest E.encoding s.now at))) }
 {
     if t == value_type::TEXT {
-        return read_texts(t, mode, s, at);
+        return read_texts::<E>(t, s, at);
     }
-    read_each(t, mode, s, at)
+    read_each::<E>(t, s, at)
 }

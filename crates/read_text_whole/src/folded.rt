@@ -4,6 +4,7 @@ ghost use Rattle.read_text_whole.specs.Whole.{ReadsFolded};
 use crate::{Kept, judged};
 use edition::edition_of;
 use refusals::{Fault, Refusal};
+use source::Folded;
 
 // The text `input`, read in the edition of the number `edition`.
 pub fn read_folded(input: &[u8], edition: u32) -> Result<Kept, Fault>
@@ -15,5 +16,5 @@ pub fn read_folded(input: &[u8], edition: u32) -> Result<Kept, Fault>
     let Some(e) = edition_of(edition) else {
         return Err(Refusal::Edition.at(0));
     };
-    judged(e, 2, input, input)
+    judged::<Folded>(e, input, input)
 }

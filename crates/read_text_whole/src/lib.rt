@@ -4,7 +4,7 @@
 mod folded;
 
 ghost use Rattle.std.specs.Prelude.{◌≡◌, true, ◌≤◌, length};
-ghost use Rattle.source.specs.Source.{rest, cuts};
+ghost use Rattle.source.specs.Source.{rest};
 ghost use Rattle.folding.specs.Lines.{lines};
 ghost use Rattle.read_text_line.specs.LineEnd.{index};
 ghost use Rattle.text.specs.ReadText.{lines_verdict, kept_verdict};
@@ -17,6 +17,7 @@ pub use folded::read_folded;
 use folding::unfolding::{place_of, unfold};
 use read_text::check;
 use refusals::{Fault, Refusal};
+use source::{Cut, Cuttable, Encoding, Plain};
 
 // A text that is fine: its edition, and how many bytes are to be read, of the work room or of the text with its folds.
 #[derive(Clone, Copy, Debug, PartialEq, Eq)]
@@ -26,31 +27,30 @@ pub struct Kept {
 }
 
 // How many bytes stand before a cursor.
-fn index_at(mode: usize, s: &[u8], p: usize) -> usize
+fn index_at<E: Encoding>(s: &[u8], p: usize) -> usize
     requires { p ≤ length s.now }
-    ensures { result ≡ index mode s.now p }
+    ensures { result ≡ index E.encoding s.now p }
 {
-    if mode == 0 {
+    if let Some(Cut::Plain) = E::cut() {
         return p;
     }
-    let all = count_from(mode, s, 0);
-    let left = count_from(mode, s, p);
+    let all = count_from::<E>(s, 0);
+    let left = count_from::<E>(s, p);
     if left <= all { all - left } else { 0 }
 }
 
 // The first faulty line of the text `s`, at its place in the text as lent.
-fn lines_judged(edition: Edition, mode: usize, input: &[u8], s: &[u8]) -> Result<Kept, Fault>
-    requires { cuts mode ≡ true }
+fn lines_judged<E: Cuttable>(edition: Edition, input: &[u8], s: &[u8]) -> Result<Kept, Fault>
     ensures { Judges edition input.now (length s.now)
-        (lines_verdict edition (length (rest mode s.now 0)) (lines (rest mode s.now 0))) result }
+        (lines_verdict edition (length (rest E.encoding s.now 0)) (lines (rest E.encoding s.now 0))) result }
 {
-    match check(edition, mode, s) {
+    match check::<E>(edition, s) {
         Ok(()) => Ok(Kept {
             edition,
             size: s.len(),
         }),
         Err(fault) => {
-            let i = index_at(mode, s, fault.place);
+            let i = index_at::<E>(s, fault.place);
             let place = place_of(input, i);
             Err(fault.refusal.at(place))
         }
@@ -58,14 +58,13 @@ fn lines_judged(edition: Edition, mode: usize, input: &[u8], s: &[u8]) -> Result
 }
 
 // The first byte of the text `s` that begins no character; or its first faulty line. Of the text as lent, `s` has the kept bytes: as they stand, or with the folds between them.
-fn judged(edition: Edition, mode: usize, input: &[u8], s: &[u8]) -> Result<Kept, Fault>
-    requires { cuts mode ≡ true }
+fn judged<E: Cuttable>(edition: Edition, input: &[u8], s: &[u8]) -> Result<Kept, Fault>
     ensures { Judges edition input.now (length s.now)
-        (kept_verdict edition (rest mode s.now 0)) result }
+        (kept_verdict edition (rest E.encoding s.now 0)) result }
 {
-    match first_bad(mode, s) {
+    match first_bad::<E>(s) {
         Some(p) => Err(Refusal::Character.at(place_of(input, p))),
-        None => lines_judged(edition, mode, input, s),
+        None => lines_judged::<E>(edition, input, s),
     }
 }
 
@@ -84,5 +83,5 @@ pub fn read_whole(input: &[u8], work: &mut [u8], edition: u32) -> Result<Kept, F
         return Err(Refusal::Edition.at(0));
     };
     let n = unfold(input, work);
-    judged(e, 0, input, &work[..n])
+    judged::<Plain>(e, input, &work[..n])
 }

@@ -25,14 +25,15 @@ use read_xml_parameters::parameters_verdict;
 use read_xml_value::{Turn, value_verdict};
 use refusals::{Fault, Refusal};
 use schema::{Context, property};
+use source::Plain;
 
 // The number of the name of an element of GEO's value, from the cursor on. It is counted from 1: 0 is `parameters`.
 fn geo_word(s: &[u8], at: usize) -> usize
     ensures { result ≡ suc (place_of (rest 0 s.now at) geo_elements) }
 {
-    if is_word(0, s, at, &element::LATITUDE) {
+    if is_word::<Plain>(s, at, &element::LATITUDE) {
         1
-    } else if is_word(0, s, at, &element::LONGITUDE) {
+    } else if is_word::<Plain>(s, at, &element::LONGITUDE) {
         2
     } else {
         3
@@ -43,11 +44,11 @@ fn geo_word(s: &[u8], at: usize) -> usize
 fn status_word(s: &[u8], at: usize) -> usize
     ensures { result ≡ suc (place_of (rest 0 s.now at) status_elements) }
 {
-    if is_word(0, s, at, &element::CODE) {
+    if is_word::<Plain>(s, at, &element::CODE) {
         1
-    } else if is_word(0, s, at, &element::DESCRIPTION) {
+    } else if is_word::<Plain>(s, at, &element::DESCRIPTION) {
         2
-    } else if is_word(0, s, at, &element::DATA) {
+    } else if is_word::<Plain>(s, at, &element::DATA) {
         3
     } else {
         4
@@ -58,7 +59,7 @@ fn status_word(s: &[u8], at: usize) -> usize
 fn type_word(s: &[u8], at: usize) -> usize
     ensures { result ≡ suc (place_of (rest 0 s.now at) type_words) }
 {
-    let t = find_word(true, 0, s, at, &table::TYPES);
+    let t = find_word::<Plain>(true, s, at, &table::TYPES);
     t + 1
 }
 
@@ -66,7 +67,7 @@ fn type_word(s: &[u8], at: usize) -> usize
 fn child_word(p: usize, s: &[u8], at: usize) -> usize
     ensures { result ≡ place_of (rest 0 s.now at) (child_words p) }
 {
-    if is_word(0, s, at, &element::PARAMETERS) {
+    if is_word::<Plain>(s, at, &element::PARAMETERS) {
         0
     } else if p == property::GEO {
         geo_word(s, at)

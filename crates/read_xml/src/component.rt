@@ -18,6 +18,7 @@ use octets::is_space;
 use read_xml_nodes::{Node, NodeKind, next_node, unexpected};
 use refusals::{Fault, Refusal};
 use schema::{complete_counts, component};
+use source::Plain;
 use tallies::{Kept, none_counted};
 
 // At the end tag of the component of the number `k`, whose children are all there: its tallies are compared, and it holds a component or not.
@@ -80,9 +81,9 @@ fn is_part(properties: bool, s: &[u8], name: usize, name_end: usize) -> bool
     ensures { result ≡ same (rest 0 (take name_end s.now) name) (part_name properties) }
 {
     if properties {
-        is_word(0, &s[..name_end], name, &element::PROPERTIES)
+        is_word::<Plain>(&s[..name_end], name, &element::PROPERTIES)
     } else {
-        is_word(0, &s[..name_end], name, &element::COMPONENTS)
+        is_word::<Plain>(&s[..name_end], name, &element::COMPONENTS)
     }
 }
 

@@ -22,6 +22,7 @@ use read_xml_parameters::has_encoding;
 use read_xml_value::type_of_nodes;
 use refusals::{Fault, Refusal};
 use schema::{Context, Row, may_stand, property, row_of, value_type};
+use source::Plain;
 use tallies::{Kept, count, none_counted};
 
 // Where the content begins of the `parameters` of the property of the number `p` that stands before its value; the end of the bytes where it has none.
@@ -69,11 +70,11 @@ fn bad_name(s: &[u8], name: usize, name_end: usize) -> bool
     if has_capital(s, name, name_end) {
         return true;
     }
-    if is_carried_name(0, &s[..name_end], name) {
-        if is_word(0, &s[..name_end], name, &element::BEGIN) {
+    if is_carried_name::<Plain>(&s[..name_end], name) {
+        if is_word::<Plain>(&s[..name_end], name, &element::BEGIN) {
             return true;
         }
-        return is_word(0, &s[..name_end], name, &element::END);
+        return is_word::<Plain>(&s[..name_end], name, &element::END);
     }
     true
 }
@@ -90,7 +91,7 @@ fn property_at(s: &[u8], n: Node) -> Row
     requires { n.name_end ≤ length s.now }
     ensures { result ≡ row_at (place_of (upper (name_of s.now n)) property_names) }
 {
-    row_of(0, &s[..n.name_end], n.name)
+    row_of::<Plain>(&s[..n.name_end], n.name)
 }
 
 // The property of the row in the component of the number `k`: its element is `n`, at `at`.

@@ -13,13 +13,14 @@ use octets::is_space;
 use read_xml_nodes::{Element, NodeKind, next_node, unexpected};
 use refusals::{Fault, Refusal};
 use schema::component;
+use source::Plain;
 
 // The name is `vcalendar`.
 fn is_calendar(s: &[u8], name: usize, name_end: usize) -> bool
     requires { name_end ≤ length s.now }
     ensures { result ≡ same (rest 0 (take name_end s.now) name) (ascii "vcalendar") }
 {
-    is_word(0, &s[..name_end], name, &element::VCALENDAR)
+    is_word::<Plain>(&s[..name_end], name, &element::VCALENDAR)
 }
 
 // The children of `icalendar`, whose content begins at `inside`, and whose end tag is at `e`.
@@ -75,7 +76,7 @@ pub fn root_verdict(edition: Edition, s: &[u8], root: Element) -> Result<(), Fau
     requires { (length s.now ≤ 65535) × (root.name_end ≤ length s.now) }
     ensures { RootAt edition s.now root result }
 {
-    if is_word(0, &s[..root.name_end], root.name, &element::ICALENDAR) {
+    if is_word::<Plain>(&s[..root.name_end], root.name, &element::ICALENDAR) {
         stream_verdict(edition, s, root.inside, root.end)
     } else {
         Err(unexpected(s, root.place, root.name, root.name_end))

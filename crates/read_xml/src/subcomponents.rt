@@ -13,6 +13,7 @@ use read_text_line::is_carried_name;
 use read_xml_nodes::{NodeKind, has_capital, next_node};
 use refusals::{Fault, Refusal};
 use schema::{component_number, may_begin, method_for};
+use source::Plain;
 use tallies::Kept;
 
 // No component's element has the name: it has capitals, or can't be carried.
@@ -20,7 +21,7 @@ fn bad_component(s: &[u8], name: usize, name_end: usize) -> bool
     requires { name_end ≤ length s.now }
     ensures { result ≡ bad_component (rest 0 (take name_end s.now) name) }
 {
-    has_capital(s, name, name_end) || !is_carried_name(0, &s[..name_end], name)
+    has_capital(s, name, name_end) || !is_carried_name::<Plain>(&s[..name_end], name)
 }
 
 // The refusal of an element at `place` that is no component there.
@@ -43,7 +44,7 @@ fn sub_number(k: usize, left: usize, s: &[u8], name: usize, name_end: usize) -> 
     if bad_component(s, name, name_end) {
         return None;
     }
-    let n = component_number(0, &s[..name_end], name);
+    let n = component_number::<Plain>(&s[..name_end], name);
     if may_begin(k, n) && 0 < left {
         Some(n)
     } else {

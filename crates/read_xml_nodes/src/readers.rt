@@ -10,7 +10,7 @@ use crate::first::first_element;
 use octets::is_capital;
 use octets::unit::END;
 use refusals::{Fault, Refusal};
-use source::unit;
+use source::{Plain, unit};
 
 // A capital stands from `at` on.
 fn capital_from(s: &[u8], at: usize) -> bool
@@ -18,7 +18,7 @@ fn capital_from(s: &[u8], at: usize) -> bool
 {
     let mut c = at;
     loop {
-        let n = unit(0, s, c);
+        let n = unit::<Plain>(s, c);
         if n.u == END {
             return false;
         }

@@ -9,6 +9,7 @@ ghost use Rattle.read_xml_parameters.specs.Children.{ChildAt};
 use crate::Child;
 use names::is_word;
 use read_xml_nodes::{NodeKind, next_node};
+use source::Plain;
 
 // The first element from `at` on.
 pub fn next_child(s: &[u8], at: usize) -> Child
@@ -55,7 +56,7 @@ pub fn next_child(s: &[u8], at: usize) -> Child
 fn is_encoding(w: &[u8]) -> bool
     ensures { result ≡ same w.now (ascii "encoding") }
 {
-    is_word(0, w, 0, b"encoding")
+    is_word::<Plain>(w, 0, b"encoding")
 }
 
 // An element named `encoding` stands among the parameters whose content begins at `inside`.

@@ -7,6 +7,7 @@ ghost use Rattle.read_xml_parameters.specs.Fresh.{first_names, Collected};
 
 use crate::children::next_child;
 use distinct::{are_distinct, keep};
+use source::Plain;
 
 // Collects the names of the elements from `inside` on by their places: how many. Where there is no room for one, it is 0.
 fn collect(s: &[u8], inside: usize, from: &mut [u16], to: &mut [u16]) -> usize
@@ -34,7 +35,7 @@ fn collect(s: &[u8], inside: usize, from: &mut [u16], to: &mut [u16]) -> usize
 fn longest(s: &[u8], from: &[u16], to: &[u16], n: usize) -> usize
     ensures { (result ≤ n) × (distinct (listed result (word_at 0 s.now from.now to.now) []) ≡ true) }
 {
-    let all = are_distinct(0, s, from, to, n);
+    let all = are_distinct::<Plain>(s, from, to, n);
     if all {
         return n;
     }
@@ -42,7 +43,7 @@ fn longest(s: &[u8], from: &[u16], to: &[u16], n: usize) -> usize
     let mut high = n;
     while 1 < high - low {
         let half = low + (high - low) / 2;
-        let some = are_distinct(0, s, from, to, half);
+        let some = are_distinct::<Plain>(s, from, to, half);
         if some {
             low = half;
         } else {

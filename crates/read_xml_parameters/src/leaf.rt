@@ -14,7 +14,7 @@ use names::find_word;
 use octets::unit::END;
 use read_xml_nodes::has_element;
 use schema::{parameter_has_words, parameter_type, read_word_of_parameter, value_type};
-use source::xml_unit;
+use source::{Plain, XmlCharacters, unit};
 use values::read_value;
 
 // The cursor of the characters of the content that begins at `inside`.
@@ -31,7 +31,7 @@ pub fn has_byte(b: usize, s: &[u8], at: usize) -> bool
 {
     let mut c = at;
     loop {
-        let n = xml_unit(s, c);
+        let n = unit::<XmlCharacters>(s, c);
         let u = n.u;
         if u == END {
             return false;
@@ -48,13 +48,13 @@ fn is_chosen(q: usize, s: &[u8], at: usize) -> bool
     ensures { result ≡ is_read (read_word_in (row_at q).words (row_at q).type (rest 1 s.now at)) }
 {
     if parameter_has_words(q) {
-        return read_word_of_parameter(q, true, 1, s, at).is_some();
+        return read_word_of_parameter::<XmlCharacters>(q, true, s, at).is_some();
     }
     let t = parameter_type(q);
     if t == value_type::UNKNOWN {
         return true;
     }
-    read_value(true, t, 1, s, at).is_some()
+    read_value::<XmlCharacters>(true, t, s, at).is_some()
 }
 
 // The content that begins at `inside` is a value of the parameter.
@@ -76,7 +76,7 @@ pub fn is_value(q: usize, w: &[u8], s: &[u8], inside: usize) -> bool
     ensures { result ≡ is_value (row_at q) w.now (nodes_at s.now inside) }
 {
     let t = parameter_type(q);
-    let k = find_word(true, 0, w, 0, &table::TYPES);
+    let k = find_word::<Plain>(true, w, 0, &table::TYPES);
     if k == t {
         return is_leaf(q, s, inside);
     }

@@ -14,6 +14,7 @@ use octets::is_space;
 use octets::unit::{LF, QUOTE};
 use read_xml_nodes::{NodeKind, has_element, next_node};
 use schema::is_listed_parameter;
+use source::XmlCharacters;
 
 // The content from `at` on is values of the parameter of the number `q`, and white space.
 pub fn are_values(q: usize, s: &[u8], at: usize) -> bool
@@ -92,7 +93,7 @@ pub fn is_base64(s: &[u8], at: usize) -> bool
     let n = next_child(s, at);
     if n.there {
         let c = cursor_of(s, n.inside);
-        return is_word(1, s, c, b"BASE64");
+        return is_word::<XmlCharacters>(s, c, b"BASE64");
     }
     true
 }

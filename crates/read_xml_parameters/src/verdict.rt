@@ -21,6 +21,7 @@ use read_text_line::is_carried_name;
 use read_xml_nodes::{NodeKind, has_capital, has_element, next_node};
 use refusals::{Fault, Refusal};
 use schema::{Row, parameter, parameter_number, permits_parameter, value_type};
+use source::Plain;
 
 // The name has capitals, begins with `xml`, a digit or a hyphen, or is `value`.
 fn is_bad_name(w: &[u8]) -> bool
@@ -30,9 +31,9 @@ fn is_bad_name(w: &[u8]) -> bool
     if capital {
         return true;
     }
-    let carried = is_carried_name(0, w, 0);
+    let carried = is_carried_name::<Plain>(w, 0);
     if carried {
-        return is_word(0, w, 0, b"value");
+        return is_word::<Plain>(w, 0, b"value");
     }
     true
 }
@@ -48,7 +49,7 @@ fn is_before(s: &[u8], from: usize, at: usize, w: &[u8]) -> bool
             if n.place < at {
                 let a = n.name;
                 let e = n.name_end;
-                let again = is_word(0, &s[a..e], 0, w);
+                let again = is_word::<Plain>(&s[a..e], 0, w);
                 if again {
                     return true;
                 }
@@ -128,7 +129,7 @@ fn is_against(
     if again {
         return true;
     }
-    let q = parameter_number(0, w, 0);
+    let q = parameter_number::<Plain>(w, 0);
     let sound = is_sound(edition, row, t, q, s, inside);
     if sound {
         return false;

@@ -22,6 +22,7 @@ use octets::unit::{COLON, COMMA, SEMICOLON};
 use read_text_line::{put_param_name, put_param_value};
 use schema::{is_quoted_parameter, parameter_number, parameter_type, value_type};
 use sink::put;
+use source::{Plain, XmlCharacters};
 
 // A value of the parameter of the number `q` stands between quotes.
 fn is_quoted(q: usize, s: &[u8], at: usize) -> bool
@@ -46,7 +47,7 @@ fn is_quoted(q: usize, s: &[u8], at: usize) -> bool
 fn put_truth(out: &mut [u8], o: usize, s: &[u8], at: usize) -> usize
     ensures { Put out.old out.new o result (truth_shown (rest 1 s.now at)) }
 {
-    match read_boolean(true, 1, s, at) {
+    match read_boolean::<XmlCharacters>(true, s, at) {
         Some(b) => put_boolean(out, o, false, b),
         None => o,
     }
@@ -58,7 +59,7 @@ fn put_plain(out: &mut [u8], o: usize, edition: Edition, q: usize, s: &[u8], at:
         (plain_shown edition (row_at q).quoted (rest 1 s.now at)) }
 {
     let quoted = is_quoted(q, s, at);
-    put_param_value(out, o, edition, quoted, 1, s, at)
+    put_param_value::<XmlCharacters>(out, o, edition, quoted, s, at)
 }
 
 // The value whose content begins at `inside`.
@@ -143,8 +144,8 @@ fn put_parameter(
     ensures { Put out.old out.new o result
         (parameter_shown edition w.now (nodes_at s.now inside)) }
 {
-    let q = parameter_number(0, w, 0);
-    let a = put_param_name(out, o, 0, w, 0);
+    let q = parameter_number::<Plain>(w, 0);
+    let a = put_param_name::<Plain>(out, o, w, 0);
     put_values(out, a, edition, q, s, inside)
 }
 

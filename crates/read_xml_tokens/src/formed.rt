@@ -13,6 +13,7 @@ use crate::{TokenAt, TokenKind};
 use names::is_word;
 use octets::is_space;
 use refusals::{Fault, Refusal};
+use source::Plain;
 
 // The name from `a` to `e` is that from `b` to `f`.
 fn same_name(s: &[u8], a: usize, e: usize, b: usize, f: usize) -> bool
@@ -20,9 +21,9 @@ fn same_name(s: &[u8], a: usize, e: usize, b: usize, f: usize) -> bool
     ensures { result ≡ same (rest 0 (take e s.now) a) (rest 0 (take f s.now) b) }
 {
     if e <= s.len() {
-        return is_word(0, &s[..e], a, &s[b..f]);
+        return is_word::<Plain>(&s[..e], a, &s[b..f]);
     }
-    is_word(0, s, a, &s[b..f])
+    is_word::<Plain>(s, a, &s[b..f])
 }
 
 // An element may start inside `depth` open ones, after the root's start.

@@ -8,6 +8,7 @@ ghost use Rattle.read_xml_tokens.specs.Prologue.{attribute};
 
 use names::name_end;
 use octets::{is_alpha, is_space, lower_unit, wide};
+use source::Plain;
 use xml::starts_at;
 
 // The bytes `w`, which has no capitals, are there in any case.
@@ -96,7 +97,7 @@ pub fn name_at(s: &[u8], at: usize) -> usize
     if at < s.len() {
         let b = wide(s[at]);
         if is_alpha(b) {
-            return name_end(0, s, at);
+            return name_end::<Plain>(s, at);
         }
         return s.len() + 1;
     }

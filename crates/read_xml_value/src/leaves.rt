@@ -20,6 +20,7 @@ use read_xml_nodes::inner_element;
 use recur::item::read_item;
 use refusals::{Fault, Refusal};
 use schema::read_word_of;
+use source::XmlCharacters;
 use values::read_value;
 
 // The element whose content begins at `inside`: no element stands there, and its characters are judged already.
@@ -36,7 +37,7 @@ fn value_chars(t: usize, s: &[u8], place: usize, inside: usize) -> Result<(), Fa
     ensures { judged_as result
         ≡ pick (is_read (read_value xcal (type_at t) (rest 1 s.now (2 * inside)))) fine (refuse spec.VALUE place) }
 {
-    match read_value(true, t, 1, s, 2 * inside) {
+    match read_value::<XmlCharacters>(true, t, s, 2 * inside) {
         Some(_) => Ok(()),
         None => Err(Refusal::Value.at(place)),
     }
@@ -56,7 +57,7 @@ fn word_chars(k: usize, p: usize, s: &[u8], place: usize, inside: usize) -> Resu
     ensures { judged_as result
         ≡ pick (is_word_of (words_at k p) (rest 1 s.now (2 * inside))) fine (refuse spec.VALUE place) }
 {
-    match read_word_of(k, p, true, 1, s, 2 * inside) {
+    match read_word_of::<XmlCharacters>(k, p, true, s, 2 * inside) {
         Some(_) => Ok(()),
         None => Err(Refusal::Value.at(place)),
     }
@@ -76,7 +77,7 @@ fn item_chars(i: usize, s: &[u8], place: usize, inside: usize) -> Result<(), Fau
         ≡ pick (is_read (read_item xcal (get_or part_names i []) (rest 1 s.now (2 * inside)))) fine
         (refuse spec.VALUE place) }
 {
-    match read_item(i, true, 1, s, 2 * inside) {
+    match read_item::<XmlCharacters>(i, true, s, 2 * inside) {
         Some(_) => Ok(()),
         None => Err(Refusal::Value.at(place)),
     }

@@ -18,16 +18,17 @@ use octets::is_within;
 use recur::part;
 use refusals::{Fault, Refusal};
 use schema::value_type;
+use source::Plain;
 
 // The number of the name of a child of PERIOD, from the cursor on.
 fn period_word(s: &[u8], at: usize) -> usize
     ensures { result ≡ place_of (rest 0 s.now at) period_names }
 {
-    if is_word(0, s, at, &element::START) {
+    if is_word::<Plain>(s, at, &element::START) {
         0
-    } else if is_word(0, s, at, &element::END) {
+    } else if is_word::<Plain>(s, at, &element::END) {
         1
-    } else if is_word(0, s, at, &element::DURATION) {
+    } else if is_word::<Plain>(s, at, &element::DURATION) {
         2
     } else {
         3
@@ -39,7 +40,7 @@ fn part_word(rule: bool, s: &[u8], at: usize) -> usize
     ensures { result ≡ place_of (rest 0 s.now at) (names_of rule) }
 {
     if rule {
-        find_word(true, 0, s, at, &table::PARTS)
+        find_word::<Plain>(true, s, at, &table::PARTS)
     } else {
         period_word(s, at)
     }

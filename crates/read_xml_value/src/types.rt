@@ -13,12 +13,13 @@ use markup::table;
 use names::find_word;
 use read_xml_nodes::{NodeKind, node_end, node_head};
 use schema::{Row, property};
+use source::Plain;
 
 // The number of the type that the word from `at` on names, 15 where it names none.
 fn type_word(s: &[u8], at: usize) -> usize
     ensures { result ≡ place_of (rest 0 s.now at) type_words }
 {
-    find_word(true, 0, s, at, &table::TYPES)
+    find_word::<Plain>(true, s, at, &table::TYPES)
 }
 
 // The same of the name from `name` to `name_end`.

@@ -10,15 +10,16 @@ ghost use Rattle.recur.specs.Fits.{is_numeral_of};
 
 use numbers::numeral::{front_unit, worth};
 use octets::unit::{END, HYPHEN, PLUS};
+use source::Encoding;
 
 // No more than `d` bytes.
-fn is_short(letters: bool, d: usize, mode: usize, s: &[u8], at: usize) -> bool
-    ensures { result ≡ is_short d (front letters (rest mode s.now at)) }
+fn is_short<E: Encoding>(letters: bool, d: usize, s: &[u8], at: usize) -> bool
+    ensures { result ≡ is_short d (front letters (rest E.encoding s.now at)) }
 {
     let mut c = at;
     let mut i = 0;
     loop {
-        let t = front_unit(letters, mode, s, c);
+        let t = front_unit::<E>(letters, s, c);
         if t.u == END {
             return true;
         }
@@ -31,22 +32,21 @@ fn is_short(letters: bool, d: usize, mode: usize, s: &[u8], at: usize) -> bool
 }
 
 // The number, where there is a digit, and it is `lo` to `hi`.
-pub fn numeral_of(
+pub fn numeral_of<E: Encoding>(
     letters: bool,
     lo: u32,
     hi: usize,
-    mode: usize,
     s: &[u8],
     at: usize,
 ) -> Option<u32>
     requires { hi ≤ 2147483647 }
-    ensures { numeral_in lo hi (front letters (rest mode s.now at)) ≡ result }
+    ensures { numeral_in lo hi (front letters (rest E.encoding s.now at)) ≡ result }
 {
-    let t = front_unit(letters, mode, s, at);
+    let t = front_unit::<E>(letters, s, at);
     if t.u == END {
         return None;
     }
-    let n = worth(letters, hi, mode, s, at)?;
+    let n = worth::<E>(letters, hi, s, at)?;
     if n < lo {
         return None;
     }
@@ -54,34 +54,33 @@ pub fn numeral_of(
 }
 
 // Digits that are worth `lo` to `hi`.
-pub fn is_numeral(letters: bool, lo: u32, hi: usize, mode: usize, s: &[u8], at: usize) -> bool
+pub fn is_numeral<E: Encoding>(letters: bool, lo: u32, hi: usize, s: &[u8], at: usize) -> bool
     requires { hi ≤ 2147483647 }
-    ensures { result ≡ is_numeral lo hi (front letters (rest mode s.now at)) }
+    ensures { result ≡ is_numeral lo hi (front letters (rest E.encoding s.now at)) }
 {
-    numeral_of(letters, lo, hi, mode, s, at).is_some()
+    numeral_of::<E>(letters, lo, hi, s, at).is_some()
 }
 
 // No more than `d` digits that are worth `lo` to `hi`.
-pub fn is_unsigned(
+pub fn is_unsigned<E: Encoding>(
     letters: bool,
     d: usize,
     lo: u32,
     hi: usize,
-    mode: usize,
     s: &[u8],
     at: usize,
 ) -> bool
     requires { hi ≤ 2147483647 }
-    ensures { result ≡ is_numeral_of d lo hi (front letters (rest mode s.now at)) }
+    ensures { result ≡ is_numeral_of d lo hi (front letters (rest E.encoding s.now at)) }
 {
-    is_short(letters, d, mode, s, at) && is_numeral(letters, lo, hi, mode, s, at)
+    is_short::<E>(letters, d, s, at) && is_numeral::<E>(letters, lo, hi, s, at)
 }
 
 // The cursor after a sign.
-pub fn after_sign(letters: bool, mode: usize, s: &[u8], at: usize) -> usize
-    ensures { after_sign (front letters (rest mode s.now at)) ≡ front letters (rest mode s.now result) }
+pub fn after_sign<E: Encoding>(letters: bool, s: &[u8], at: usize) -> usize
+    ensures { after_sign (front letters (rest E.encoding s.now at)) ≡ front letters (rest E.encoding s.now result) }
 {
-    let t = front_unit(letters, mode, s, at);
+    let t = front_unit::<E>(letters, s, at);
     if t.u == PLUS {
         return t.next;
     }
@@ -92,10 +91,10 @@ pub fn after_sign(letters: bool, mode: usize, s: &[u8], at: usize) -> usize
 }
 
 // A number of 1 to `hi`, of no more than `d` digits, that may have a sign.
-pub fn is_signed(letters: bool, d: usize, hi: usize, mode: usize, s: &[u8], at: usize) -> bool
+pub fn is_signed<E: Encoding>(letters: bool, d: usize, hi: usize, s: &[u8], at: usize) -> bool
     requires { hi ≤ 2147483647 }
-    ensures { result ≡ is_numeral_of d 1 hi (after_sign (front letters (rest mode s.now at))) }
+    ensures { result ≡ is_numeral_of d 1 hi (after_sign (front letters (rest E.encoding s.now at))) }
 {
-    let c = after_sign(letters, mode, s, at);
-    is_unsigned(letters, d, 1, hi, mode, s, c)
+    let c = after_sign::<E>(letters, s, at);
+    is_unsigned::<E>(letters, d, 1, hi, s, c)
 }

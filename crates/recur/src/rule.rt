@@ -4,7 +4,7 @@ ghost use Rattle.octets.specs.Class.{upper};
 ghost use Rattle.octets.specs.Words.{cut_at};
 ghost use Rattle.octets.specs.Reading.{is_read};
 ghost use Rattle.octets.specs.Front.{past};
-ghost use Rattle.source.specs.Source.{rest, cuts, Within};
+ghost use Rattle.source.specs.Source.{rest, Within};
 ghost use Rattle.names.specs.Table.{place_of};
 ghost use Rattle.names.specs.Packing.{lookup};
 ghost use Rattle.recur.specs.Parts.{part_names, part_of, is_listed};
@@ -17,18 +17,18 @@ use crate::item::is_item;
 use crate::part;
 use names::packed::pack;
 use octets::unit::{COMMA, END, EQUALS, SEMICOLON};
-use source::unit;
+use source::{Cuttable, Encoding, unit};
 
 const LISTED: [u8; 14] = [0, 0, 0, 0, 1, 1, 1, 1, 1, 1, 1, 1, 1, 0];
 
 // The cursor at the first byte `k`, or at the end.
-pub fn byte_end(k: usize, mode: usize, s: &[u8], at: usize) -> usize
-    requires { Within mode s.now at }
-    ensures { Ends k mode s.now at result }
+pub fn byte_end<E: Encoding>(k: usize, s: &[u8], at: usize) -> usize
+    requires { Within E.encoding s.now at }
+    ensures { Ends k E.encoding s.now at result }
 {
     let mut c = at;
     loop {
-        let t = unit(mode, s, c);
+        let t = unit::<E>(s, c);
         if t.u == END {
             return c;
         }
@@ -94,10 +94,10 @@ fn part_2(high: u64, low: u64) -> usize
 }
 
 // The place of a part's name, in any case, by its number (specs/Packing.antt of crate names); part::KNOWN where no part has that name.
-fn part_number(mode: usize, s: &[u8], at: usize) -> usize
-    ensures { result ≡ place_of (upper (rest mode s.now at)) part_names }
+fn part_number<E: Encoding>(s: &[u8], at: usize) -> usize
+    ensures { result ≡ place_of (upper (rest E.encoding s.now at)) part_names }
 {
-    let w = pack(mode, s, at);
+    let w = pack::<E>(s, at);
     if w.low < 0x85666c99d56a45 {
         return part_1(w.high, w.low);
     }
@@ -105,22 +105,22 @@ fn part_number(mode: usize, s: &[u8], at: usize) -> usize
 }
 
 // The place of a piece's name.
-fn part_place(mode: usize, s: &[u8], at: usize) -> usize
-    requires { Within mode s.now at }
-    ensures { result ≡ place_at (rest mode s.now at) }
+fn part_place<E: Encoding>(s: &[u8], at: usize) -> usize
+    requires { Within E.encoding s.now at }
+    ensures { result ≡ place_at (rest E.encoding s.now at) }
 {
-    let e = byte_end(EQUALS, mode, s, at);
-    part_number(mode, &s[..e], at)
+    let e = byte_end::<E>(EQUALS, s, at);
+    part_number::<E>(&s[..e], at)
 }
 
 // The cursor after a piece's name and =.
-pub fn value_at(mode: usize, s: &[u8], at: usize) -> usize
-    requires { Within mode s.now at }
-    ensures { (past is_equals (rest mode s.now at) ≡ rest mode s.now result)
-        × Within mode s.now result }
+pub fn value_at<E: Encoding>(s: &[u8], at: usize) -> usize
+    requires { Within E.encoding s.now at }
+    ensures { (past is_equals (rest E.encoding s.now at) ≡ rest E.encoding s.now result)
+        × Within E.encoding s.now result }
 {
-    let e = byte_end(EQUALS, mode, s, at);
-    let n = unit(mode, s, e);
+    let e = byte_end::<E>(EQUALS, s, at);
+    let n = unit::<E>(s, e);
     if n.u == END {
         return e;
     }
@@ -138,17 +138,17 @@ pub fn is_list_part(p: usize) -> bool
 }
 
 // Each piece between commas is an item of the part at the place `p`.
-fn are_items(p: usize, mode: usize, s: &[u8], at: usize) -> bool
-    requires { Within mode s.now at }
-    ensures { result ≡ are_items p (cut_at 44 (rest mode s.now at)) }
+fn are_items<E: Encoding>(p: usize, s: &[u8], at: usize) -> bool
+    requires { Within E.encoding s.now at }
+    ensures { result ≡ are_items p (cut_at 44 (rest E.encoding s.now at)) }
 {
     let mut c = at;
     loop {
-        let e = byte_end(COMMA, mode, s, c);
-        if !is_item(p, false, mode, &s[..e], c) {
+        let e = byte_end::<E>(COMMA, s, c);
+        if !is_item::<E>(p, false, &s[..e], c) {
             return false;
         }
-        let n = unit(mode, s, e);
+        let n = unit::<E>(s, e);
         if n.u == END {
             return true;
         }
@@ -157,15 +157,15 @@ fn are_items(p: usize, mode: usize, s: &[u8], at: usize) -> bool
 }
 
 // A piece, whose name is at the place `p`, is a part.
-fn is_part(p: usize, mode: usize, s: &[u8], at: usize) -> bool
-    requires { (p ≡ place_at (rest mode s.now at)) × Within mode s.now at }
-    ensures { result ≡ is_read (read_part (rest mode s.now at)) }
+fn is_part<E: Encoding>(p: usize, s: &[u8], at: usize) -> bool
+    requires { (p ≡ place_at (rest E.encoding s.now at)) × Within E.encoding s.now at }
+    ensures { result ≡ is_read (read_part (rest E.encoding s.now at)) }
 {
-    let v = value_at(mode, s, at);
+    let v = value_at::<E>(s, at);
     if is_list_part(p) {
-        return are_items(p, mode, s, v);
+        return are_items::<E>(p, s, v);
     }
-    is_item(p, false, mode, s, v)
+    is_item::<E>(p, false, s, v)
 }
 
 // FREQ is there; UNTIL and COUNT are not both there.
@@ -176,23 +176,23 @@ fn is_whole(begins: [Option<usize>; 14]) -> bool
 }
 
 // The parts from the cursor `at` to the end: each piece is one, and no two have the same name. Of each of the 14, the cursor at its piece, if it is there.
-fn find_parts(mode: usize, s: &[u8], at: usize) -> Option<[Option<usize>; 14]>
-    requires { Within mode s.now at }
-    ensures { Parted mode s.now at result }
+fn find_parts<E: Encoding>(s: &[u8], at: usize) -> Option<[Option<usize>; 14]>
+    requires { Within E.encoding s.now at }
+    ensures { Parted E.encoding s.now at result }
 {
     let mut begins = [None; 14];
     let mut c = at;
     loop {
-        let e = byte_end(SEMICOLON, mode, s, c);
-        let p = part_place(mode, &s[..e], c);
-        if !is_part(p, mode, &s[..e], c) {
+        let e = byte_end::<E>(SEMICOLON, s, c);
+        let p = part_place::<E>(&s[..e], c);
+        if !is_part::<E>(p, &s[..e], c) {
             return None;
         }
         if begins[p].is_some() {
             return None;
         }
         begins[p] = Some(c);
-        let n = unit(mode, s, e);
+        let n = unit::<E>(s, e);
         if n.u == END {
             if is_whole(begins) {
                 return Some(begins);
@@ -204,20 +204,18 @@ fn find_parts(mode: usize, s: &[u8], at: usize) -> Option<[Option<usize>; 14]>
 }
 
 // The rule from the cursor `at` to the end: where its parts stand.
-pub fn read_parts(mode: usize, s: &[u8], at: usize) -> Option<[Option<usize>; 14]>
-    requires { cuts mode ≡ true }
-    ensures { Parted mode s.now at result }
+pub fn read_parts<E: Cuttable>(s: &[u8], at: usize) -> Option<[Option<usize>; 14]>
+    ensures { Parted E.encoding s.now at result }
 {
     if s.len() < at {
         return None;
     }
-    find_parts(mode, s, at)
+    find_parts::<E>(s, at)
 }
 
 // There is a rule from the cursor `at` to the end.
-pub fn read_rule(mode: usize, s: &[u8], at: usize) -> bool
-    requires { cuts mode ≡ true }
-    ensures { result ≡ is_read (read_rule (rest mode s.now at)) }
+pub fn read_rule<E: Cuttable>(s: &[u8], at: usize) -> bool
+    ensures { result ≡ is_read (read_rule (rest E.encoding s.now at)) }
 {
-    read_parts(mode, s, at).is_some()
+    read_parts::<E>(s, at).is_some()
 }

@@ -15,17 +15,16 @@ use names::find_word;
 use numbers::numeral::front_unit;
 use octets::is_alpha;
 use octets::unit::END;
-use source::unit;
+use source::{Encoding, unit};
 use times::date::read_date;
 use times::date_time::read_date_time;
 
 // A frequency.
-pub fn is_frequency(xcal: bool, mode: usize, s: &[u8], at: usize) -> bool
-    ensures { result ≡ is_one_of (in_capitals (format_of xcal) (rest mode s.now at)) frequencies }
+pub fn is_frequency<E: Encoding>(xcal: bool, s: &[u8], at: usize) -> bool
+    ensures { result ≡ is_one_of (in_capitals (format_of xcal) (rest E.encoding s.now at)) frequencies }
 {
-    find_word(
+    find_word::<E>(
         xcal,
-        mode,
         s,
         at,
         b"SECONDLY\nMINUTELY\nHOURLY\nDAILY\nWEEKLY\nMONTHLY\nYEARLY\n",
@@ -33,19 +32,19 @@ pub fn is_frequency(xcal: bool, mode: usize, s: &[u8], at: usize) -> bool
 }
 
 // A weekday.
-pub fn is_weekday(xcal: bool, mode: usize, s: &[u8], at: usize) -> bool
-    ensures { result ≡ is_one_of (in_capitals (format_of xcal) (rest mode s.now at)) weekdays }
+pub fn is_weekday<E: Encoding>(xcal: bool, s: &[u8], at: usize) -> bool
+    ensures { result ≡ is_one_of (in_capitals (format_of xcal) (rest E.encoding s.now at)) weekdays }
 {
-    find_word(xcal, mode, s, at, b"SU\nMO\nTU\nWE\nTH\nFR\nSA\n") < 7
+    find_word::<E>(xcal, s, at, b"SU\nMO\nTU\nWE\nTH\nFR\nSA\n") < 7
 }
 
 // The cursor at the first letter.
-pub fn first_letter(mode: usize, s: &[u8], at: usize) -> usize
-    ensures { from_on is_alpha (rest mode s.now at) ≡ rest mode s.now result }
+pub fn first_letter<E: Encoding>(s: &[u8], at: usize) -> usize
+    ensures { from_on is_alpha (rest E.encoding s.now at) ≡ rest E.encoding s.now result }
 {
     let mut c = at;
     loop {
-        let t = unit(mode, s, c);
+        let t = unit::<E>(s, c);
         if t.u == END {
             return c;
         }
@@ -57,26 +56,26 @@ pub fn first_letter(mode: usize, s: &[u8], at: usize) -> usize
 }
 
 // Nothing, or a number of 1 to 53, before the first letter.
-fn is_ordinal(mode: usize, s: &[u8], at: usize) -> bool
-    ensures { result ≡ fits_ordinal (up_to is_alpha (rest mode s.now at)) }
+fn is_ordinal<E: Encoding>(s: &[u8], at: usize) -> bool
+    ensures { result ≡ fits_ordinal (up_to is_alpha (rest E.encoding s.now at)) }
 {
-    let t = front_unit(true, mode, s, at);
+    let t = front_unit::<E>(true, s, at);
     if t.u == END {
         return true;
     }
-    is_signed(true, 2, 53, mode, s, at)
+    is_signed::<E>(true, 2, 53, s, at)
 }
 
 // A weekday that may have an ordinal.
-pub fn is_weekdaynum(xcal: bool, mode: usize, s: &[u8], at: usize) -> bool
-    ensures { result ≡ fits_form (format_of xcal) weekdaynum (rest mode s.now at) }
+pub fn is_weekdaynum<E: Encoding>(xcal: bool, s: &[u8], at: usize) -> bool
+    ensures { result ≡ fits_form (format_of xcal) weekdaynum (rest E.encoding s.now at) }
 {
-    is_ordinal(mode, s, at) && is_weekday(xcal, mode, s, first_letter(mode, s, at))
+    is_ordinal::<E>(s, at) && is_weekday::<E>(xcal, s, first_letter::<E>(s, at))
 }
 
 // A date or a date-time.
-pub fn is_enddate(xcal: bool, mode: usize, s: &[u8], at: usize) -> bool
-    ensures { result ≡ is_read (read_enddate (format_of xcal) (rest mode s.now at)) }
+pub fn is_enddate<E: Encoding>(xcal: bool, s: &[u8], at: usize) -> bool
+    ensures { result ≡ is_read (read_enddate (format_of xcal) (rest E.encoding s.now at)) }
 {
-    read_date(xcal, mode, s, at).is_some() || read_date_time(xcal, mode, s, at).is_some()
+    read_date::<E>(xcal, s, at).is_some() || read_date_time::<E>(xcal, s, at).is_some()
 }

@@ -13,14 +13,14 @@ ghost use Rattle.schema.specs.Packs.{parameter_rows1, parameter_rows2, parameter
 use crate::parameter;
 use names::find_word;
 use names::packed::pack;
+use source::Encoding;
 
 // The number of a value type, 14 (UNKNOWN) where there is none of that name.
-pub fn type_number(mode: usize, s: &[u8], at: usize) -> usize
-    ensures { result ≡ place_of (upper (rest mode s.now at)) type_names }
+pub fn type_number<E: Encoding>(s: &[u8], at: usize) -> usize
+    ensures { result ≡ place_of (upper (rest E.encoding s.now at)) type_names }
 {
-    find_word(
+    find_word::<E>(
         false,
-        mode,
         s,
         at,
         b"BINARY\nBOOLEAN\nCAL-ADDRESS\nDATE\nDATE-TIME\nDURATION\nFLOAT\nINTEGER\nPERIOD\nRECUR\nTEXT\nTIME\nURI\nUTC-OFFSET\n",
@@ -28,12 +28,11 @@ pub fn type_number(mode: usize, s: &[u8], at: usize) -> usize
 }
 
 // The number of a component, 9 where there is none of that name.
-pub fn component_number(mode: usize, s: &[u8], at: usize) -> usize
-    ensures { result ≡ place_of (upper (rest mode s.now at)) component_names }
+pub fn component_number<E: Encoding>(s: &[u8], at: usize) -> usize
+    ensures { result ≡ place_of (upper (rest E.encoding s.now at)) component_names }
 {
-    find_word(
+    find_word::<E>(
         false,
-        mode,
         s,
         at,
         b"VCALENDAR\nVEVENT\nVTODO\nVJOURNAL\nVFREEBUSY\nVTIMEZONE\nSTANDARD\nDAYLIGHT\nVALARM\n",
@@ -116,10 +115,10 @@ fn parameter_3(high: u64, low: u64) -> usize
 }
 
 // The number of a parameter, 19 (KNOWN) where there is none of that name.
-pub fn parameter_number(mode: usize, s: &[u8], at: usize) -> usize
-    ensures { result ≡ place_of (upper (rest mode s.now at)) parameter_names }
+pub fn parameter_number<E: Encoding>(s: &[u8], at: usize) -> usize
+    ensures { result ≡ place_of (upper (rest E.encoding s.now at)) parameter_names }
 {
-    let w = pack(mode, s, at);
+    let w = pack::<E>(s, at);
     if w.low < 0x60cca94a2d0 {
         return parameter_1(w.high, w.low);
     }

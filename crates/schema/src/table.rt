@@ -10,6 +10,7 @@ ghost use Rattle.schema.specs.Halving.{short_key, long_key, key_for, rising, fou
 
 use crate::{property, value_type};
 use names::packed::pack;
+use source::Encoding;
 
 // A property: the first bytes of its name, and its name (names::pack); the permitted parameters, types and components; the lists in which it stands at least once, at most once, any number of times;
 // the type of its values where no VALUE is given; whether it takes a list of values.
@@ -868,9 +869,9 @@ fn row_by(high: u64, low: u64) -> Row
 }
 
 // The row of the property of a name; of an unrecognised one, what stands for it.
-pub fn row_of(mode: usize, s: &[u8], at: usize) -> Row
-    ensures { result ≡ row_at (place_of (upper (rest mode s.now at)) property_names) }
+pub fn row_of<E: Encoding>(s: &[u8], at: usize) -> Row
+    ensures { result ≡ row_at (place_of (upper (rest E.encoding s.now at)) property_names) }
 {
-    let w = pack(mode, s, at);
+    let w = pack::<E>(s, at);
     row_by(w.high, w.low)
 }

@@ -8,6 +8,7 @@ ghost use Rattle.schema.specs.Sets.{set_of, status_set, property_set, set_at, wo
 
 use crate::{Action, component, parameter, property, set};
 use names::find_word;
+use source::Encoding;
 
 // The number of the set of STATUS in a component.
 fn status_set(k: usize) -> usize
@@ -86,8 +87,8 @@ const STARTS: [usize; 18] = [
 const SIZES: [usize; 17] = [1, 1, 3, 2, 3, 3, 4, 3, 5, 2, 4, 7, 1, 2, 3, 4, 8];
 
 // The place of the word in the set of this number.
-fn read_in_set(number: Option<usize>, xcal: bool, mode: usize, s: &[u8], at: usize) -> Option<usize>
-    ensures { result ≡ word_in (set_of number) (cased (case_of xcal) (rest mode s.now at)) }
+fn read_in_set<E: Encoding>(number: Option<usize>, xcal: bool, s: &[u8], at: usize) -> Option<usize>
+    ensures { result ≡ word_in (set_of number) (cased (case_of xcal) (rest E.encoding s.now at)) }
 {
     let n = number?;
     if n >= set::COUNT {
@@ -96,7 +97,7 @@ fn read_in_set(number: Option<usize>, xcal: bool, mode: usize, s: &[u8], at: usi
     let words = WORDS;
     let from = STARTS[n];
     let to = STARTS[n + 1];
-    let i = find_word(xcal, mode, s, at, &words[from..to]);
+    let i = find_word::<E>(xcal, s, at, &words[from..to]);
     if i < SIZES[n] {
         return Some(i);
     }
@@ -111,17 +112,16 @@ pub fn has_words(k: usize, p: usize) -> bool
 }
 
 // The place of the word in the closed set of a property in a component.
-pub fn read_word_of(
+pub fn read_word_of<E: Encoding>(
     k: usize,
     p: usize,
     xcal: bool,
-    mode: usize,
     s: &[u8],
     at: usize,
 ) -> Option<usize>
-    ensures { result ≡ word_in (words_at k p) (cased (case_of xcal) (rest mode s.now at)) }
+    ensures { result ≡ word_in (words_at k p) (cased (case_of xcal) (rest E.encoding s.now at)) }
 {
-    read_in_set(set_at(k, p), xcal, mode, s, at)
+    read_in_set::<E>(set_at(k, p), xcal, s, at)
 }
 
 // The number of the set of each parameter.
@@ -164,16 +164,15 @@ pub fn parameter_has_words(q: usize) -> bool
 }
 
 // The place of the word in the closed set of a parameter.
-pub fn read_word_of_parameter(
+pub fn read_word_of_parameter<E: Encoding>(
     q: usize,
     xcal: bool,
-    mode: usize,
     s: &[u8],
     at: usize,
 ) -> Option<usize>
-    ensures { result ≡ word_in (parameter_words_at q) (cased (case_of xcal) (rest mode s.now at)) }
+    ensures { result ≡ word_in (parameter_words_at q) (cased (case_of xcal) (rest E.encoding s.now at)) }
 {
-    read_in_set(parameter_set(q), xcal, mode, s, at)
+    read_in_set::<E>(parameter_set(q), xcal, s, at)
 }
 
 // The action whose word has this place in the set of ACTION.
@@ -188,9 +187,9 @@ fn action_at(place: usize) -> Action
 }
 
 // The action that a word names: AUDIO, DISPLAY or EMAIL.
-pub fn action_named(xcal: bool, mode: usize, s: &[u8], at: usize) -> Option<Action>
-    ensures { result ≡ action_named (cased (case_of xcal) (rest mode s.now at)) }
+pub fn action_named<E: Encoding>(xcal: bool, s: &[u8], at: usize) -> Option<Action>
+    ensures { result ≡ action_named (cased (case_of xcal) (rest E.encoding s.now at)) }
 {
-    let place = read_in_set(Some(set::ACTION), xcal, mode, s, at)?;
+    let place = read_in_set::<E>(Some(set::ACTION), xcal, s, at)?;
     Some(action_at(place))
 }

@@ -10,7 +10,7 @@ use Rattle.octets.specs.Pick.{pick}
 use Rattle.octets.specs.Append.{◌⊕◌}
 use Rattle.utf8.specs.Spell.{spell as spelled}
 use Rattle.source.specs.Source.{rest, cuts, spell}
-use Rattle.source.specs.declared.Step.{Step}
+use Rattle.source.specs.declared.points.Unit.{Unit}
 
 pub record Placed (s : List ℕ) (p u n : ℕ) : Type 0 where
   pub high : u < 257 + 0x110000
@@ -36,7 +36,7 @@ pub record Found (m : ℕ) (s : List ℕ) (p u n q : ℕ) : Type 0 where
   pub left : 256 < u → rest m s (2 * q + 1) ≡ pick (ltb (q - p + 1) (length (spelled (u - 257)))) (drop (q - p + 1) (spelled (u - 257)) ⊕ rest m s (2 * n)) []
   pub inner : 256 < u → Inner m s p (u - 257) n
 
-pub record Left (m : ℕ) (s : List ℕ) (p v n j : ℕ) (r : Step) : Type 0 where
+pub record Left (m : ℕ) (s : List ℕ) (p v n j : ℕ) (r : Unit) : Type 0 where
   pub is : pick (ltb j (length (spelled v))) (drop j (spelled v) ⊕ rest m s (2 * n)) [] ≡ spell r.u (rest m s r.next)
   pub small : r.u ≤ 256
   pub moved : 2 * (p + j) < r.next + r.u / 256 * 2 ^ 64

@@ -1,110 +1,100 @@
-// A cursor over lent bytes in a given encoding: a value is read character by character, whatever encoding it stands in. See specs/Source.antt.
+// A cursor over lent bytes: a value is read character by character, whatever encoding it stands in. See specs/Source.antt.
+// Code is generic over the encoding: it is proved once, and built for each that it reads.
 #![tactic(auto)]
 
 mod carets;
 mod characters;
+mod folds;
 mod points;
 mod quoted;
 
-ghost use Rattle.std.specs.Prelude.{◌≡◌};
-ghost use Rattle.source.specs.Source.{Reads, Settled};
+ghost use Rattle.std.specs.Prelude.{◌≡◌, ℕ, true};
+ghost use Rattle.source.specs.Source.{Reads, Settled, unit_of, cut_of, cuts};
 
-use carets::caret_unit;
-pub use carets::value_mode;
-pub use characters::xml_unit;
-use folding::skip::skip_folds;
+pub use carets::Carets;
+pub use characters::XmlCharacters;
+pub use folds::Folded;
 use octets::unit::END;
-use octets::wide;
-pub use quoted::quoted_unit;
+pub use points::Unit;
+pub use quoted::JsonCharacters;
 
-// A character's next byte, or END at the value's end; and the cursor after it.
-#[derive(Clone, Copy)]
+// A byte, and the cursor after it.
+#[derive(Clone, Copy, Debug, PartialEq, Eq)]
 pub struct Step {
-    pub u: usize,
+    pub byte: u8,
     pub next: usize,
 }
 
+// The encodings whose cursors are places, for code that is over any encoding and has to cut what is lent.
+#[derive(Clone, Copy, Debug, PartialEq, Eq)]
+pub enum Cut {
+    Plain,
+    Folded,
+}
+
+// How characters stand in what is lent.
+pub trait Encoding {
+    // Its number in specs/Source.antt.
+    ghost encoding: { ℕ };
+
+    // The byte at the cursor `at`, or none where nothing is left.
+    fn step(s: &[u8], at: usize) -> Option<Step>
+        ensures { Reads encoding s.now at (unit_of at result) };
+
+    // The cursor behind what has no byte of its own: if it is within what is lent, a byte stands there.
+    fn settled(s: &[u8], at: usize) -> usize
+        ensures { Settled encoding s.now at result };
+
+    // Which of the encodings it is whose cursors are places, if it is one.
+    fn cut() -> Option<Cut>
+        ensures { result ≡ cut_of encoding };
+}
+
+// An encoding whose cursors are places: what is lent may be cut at them.
+pub trait Cuttable: Encoding {
+    ghost cut: { cuts Self.encoding ≡ true };
+}
+
+// The byte at the cursor `at` as a unit: END where nothing is left.
+pub fn unit<E: Encoding>(s: &[u8], at: usize) -> Unit
+    ensures { Reads E.encoding s.now at result }
+{
+    match E::step(s, at) {
+        Some(step) => Unit {
+            u: step.byte as usize,
+            next: step.next,
+        },
+        None => Unit { u: END, next: at },
+    }
+}
+
 // Bytes as they stand, to the end of what is lent.
-pub fn plain_unit(s: &[u8], at: usize) -> Step
-    ensures { Reads 0 s.now at result }
-{
-    if at < s.len() {
-        return Step {
-            u: wide(s[at]),
-            next: at + 1,
-        };
-    }
-    Step { u: END, next: at }
-}
+pub struct Plain;
 
-// The bytes of a text with its folds in place: folds are passed over.
-fn folded_unit(s: &[u8], at: usize) -> Step
-    ensures { Reads 2 s.now at result }
-{
-    if at < s.len() {
-        let n = skip_folds(s, at);
-        if n < s.len() {
-            return Step {
-                u: wide(s[n]),
-                next: n + 1,
-            };
-        }
-        return Step { u: END, next: at };
-    }
-    Step { u: END, next: at }
-}
+impl Encoding for Plain {
+    ghost encoding = { 0 };
 
-// The cursor behind what has no byte of its own: if it is within what is lent, a byte stands there.
-pub fn settled(mode: usize, s: &[u8], at: usize) -> usize
-    ensures { Settled mode s.now at result }
-{
-    if mode == 2 {
+    fn step(s: &[u8], at: usize) -> Option<Step> {
         if at < s.len() {
-            return skip_folds(s, at);
+            return Some(Step {
+                byte: s[at],
+                next: at + 1,
+            });
         }
-        return at;
+        None
     }
-    at
+
+    fn settled(_s: &[u8], at: usize) -> usize {
+        at
+    }
+
+    fn cut() -> Option<Cut> {
+        Some(Cut::Plain)
+    }
 }
 
-// An encoding that there is not has no characters.
-fn no_unit(s: &[u8], at: usize, mode: usize) -> Step
-    requires { (mode ≡ 0 → ⊥) × (mode ≡ 1 → ⊥) × (mode ≡ 2 → ⊥) × (mode ≡ 3 → ⊥) × (mode ≡ 4 → ⊥) × (mode ≡ 5 → ⊥) }
-    ensures { Reads mode s.now at result }
-{
-    Step { u: END, next: at }
-}
+impl Cuttable for Plain {
+    ghost use Rattle.std.specs.Prelude.{refl};
 
-// The byte at the cursor `at` in any encoding but bytes as they stand.
-pub fn other_unit(mode: usize, s: &[u8], at: usize) -> Step
-    requires { mode ≡ 0 → ⊥ }
-    ensures { Reads mode s.now at result }
-{
-    if mode == 1 {
-        return xml_unit(s, at);
-    }
-    if mode == 2 {
-        return folded_unit(s, at);
-    }
-    if mode == 3 {
-        return quoted_unit(s, at);
-    }
-    if mode == 4 {
-        return caret_unit(0, mode, s, at);
-    }
-    if mode == 5 {
-        return caret_unit(2, mode, s, at);
-    }
-    no_unit(s, at, mode)
-}
-
-// The byte at the cursor `at`, in the encoding that `mode` names: 0 for bytes as they stand, 1 for the characters of an XML element,
-// 2 for a text with its folds in place, 3 for the characters of a JSON string, 4 and 5 for a parameter's value with carets over 0 and over 2.
-pub fn unit(mode: usize, s: &[u8], at: usize) -> Step
-    ensures { Reads mode s.now at result }
-{
-    if mode == 0 {
-        return plain_unit(s, at);
-    }
-    other_unit(mode, s, at)
+    ghost cut = { refl };
 }

@@ -10,7 +10,7 @@ ghost use Rattle.xml.specs.Escape.{escaped_byte, escaped, start_tag, end_tag};
 use names::put_lower;
 use octets::unit::END;
 use sink::{put, put_all};
-use source::unit;
+use source::{Encoding, unit};
 
 // A character's byte, or its entity.
 pub fn put_escaped_byte(out: &mut [u8], at: usize, b: u8) -> usize
@@ -25,13 +25,13 @@ pub fn put_escaped_byte(out: &mut [u8], at: usize, b: u8) -> usize
 }
 
 // The characters from the cursor `from` to the end of the source.
-pub fn put_escaped(out: &mut [u8], at: usize, mode: usize, s: &[u8], from: usize) -> usize
-    ensures { Put out.old out.new at result (escaped (rest mode s.now from)) }
+pub fn put_escaped<E: Encoding>(out: &mut [u8], at: usize, s: &[u8], from: usize) -> usize
+    ensures { Put out.old out.new at result (escaped (rest E.encoding s.now from)) }
 {
     let mut o = at;
     let mut c = from;
     loop {
-        let t = unit(mode, s, c);
+        let t = unit::<E>(s, c);
         if t.u == END {
             return o;
         }
@@ -57,19 +57,19 @@ pub fn put_end_tag(out: &mut [u8], at: usize, name: &[u8]) -> usize
 }
 
 // The start tag of the name that stands from the cursor on, in small letters.
-pub fn put_small_start(out: &mut [u8], o: usize, mode: usize, s: &[u8], at: usize) -> usize
-    ensures { Put out.old out.new o result (start_tag (lower (rest mode s.now at))) }
+pub fn put_small_start<E: Encoding>(out: &mut [u8], o: usize, s: &[u8], at: usize) -> usize
+    ensures { Put out.old out.new o result (start_tag (lower (rest E.encoding s.now at))) }
 {
     let a = put_all(out, o, b"<");
-    let b = put_lower(out, a, mode, s, at);
+    let b = put_lower::<E>(out, a, s, at);
     put_all(out, b, b">")
 }
 
 // Its end tag.
-pub fn put_small_end(out: &mut [u8], o: usize, mode: usize, s: &[u8], at: usize) -> usize
-    ensures { Put out.old out.new o result (end_tag (lower (rest mode s.now at))) }
+pub fn put_small_end<E: Encoding>(out: &mut [u8], o: usize, s: &[u8], at: usize) -> usize
+    ensures { Put out.old out.new o result (end_tag (lower (rest E.encoding s.now at))) }
 {
     let a = put_all(out, o, b"</");
-    let b = put_lower(out, a, mode, s, at);
+    let b = put_lower::<E>(out, a, s, at);
     put_all(out, b, b">")
 }

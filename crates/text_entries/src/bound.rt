@@ -8,7 +8,7 @@ use crate::entry::{Found, Kind, entry_at};
 use edition::Edition;
 use octets::unit::{LOWER_B, LOWER_E, UPPER_B, UPPER_E};
 use read_text_line::{LineCursors, line_end};
-use source::unit;
+use source::{Encoding, unit};
 
 // A byte that BEGIN or END can begin with.
 fn opens_bound(b: usize) -> bool
@@ -18,11 +18,11 @@ fn opens_bound(b: usize) -> bool
 }
 
 // The line at `at`, which is neither BEGIN nor END: only its end is sought.
-fn line_aside(edition: Edition, mode: usize, s: &[u8], at: usize) -> Found
-    requires { Ready mode s.now at × (at < length s.now) × (opens (rest mode s.now at) ≡ false) }
-    ensures { BoundAt edition mode s.now at result }
+fn line_aside<E: Encoding>(edition: Edition, s: &[u8], at: usize) -> Found
+    requires { Ready E.encoding s.now at × (at < length s.now) × (opens (rest E.encoding s.now at) ≡ false) }
+    ensures { BoundAt edition E.encoding s.now at result }
 {
-    let Some(ending) = line_end(mode, s, at) else {
+    let Some(ending) = line_end::<E>(s, at) else {
         return Found {
             kind: Kind::Nothing,
             line: LineCursors {
@@ -47,14 +47,14 @@ fn line_aside(edition: Edition, mode: usize, s: &[u8], at: usize) -> Found
 }
 
 // The line at `at`: BEGIN, END, or another. Where its first byte tells that it is another, it is not taken apart.
-pub fn bound_at(edition: Edition, mode: usize, s: &[u8], at: usize) -> Found
-    requires { Ready mode s.now at × (at < length s.now) }
-    ensures { BoundAt edition mode s.now at result }
+pub fn bound_at<E: Encoding>(edition: Edition, s: &[u8], at: usize) -> Found
+    requires { Ready E.encoding s.now at × (at < length s.now) }
+    ensures { BoundAt edition E.encoding s.now at result }
 {
-    let n = unit(mode, s, at);
+    let n = unit::<E>(s, at);
     let opens = opens_bound(n.u);
     if opens {
-        return entry_at(edition, mode, s, at);
+        return entry_at::<E>(edition, s, at);
     }
-    line_aside(edition, mode, s, at)
+    line_aside::<E>(edition, s, at)
 }

@@ -8,6 +8,7 @@ ghost use Rattle.text_entries.specs.Entries.{kind_named, FoundAt};
 use edition::Edition;
 use names::is_word_any_case;
 use read_text_line::{LineCursors, line_at, line_end};
+use source::Encoding;
 
 // The beginning of a component, the end of one, a property, or none of these.
 #[derive(Clone, Copy, Debug, PartialEq, Eq)]
@@ -28,14 +29,14 @@ pub struct Found {
 }
 
 // What a content line is, by its name.
-fn kind_of(mode: usize, name: &[u8], at: usize) -> Kind
-    ensures { result ≡ kind_named (upper (rest mode name.now at)) }
+fn kind_of<E: Encoding>(name: &[u8], at: usize) -> Kind
+    ensures { result ≡ kind_named (upper (rest E.encoding name.now at)) }
 {
-    let begin = is_word_any_case(mode, name, at, b"BEGIN");
+    let begin = is_word_any_case::<E>(name, at, b"BEGIN");
     if begin {
         return Kind::Begin;
     }
-    let end = is_word_any_case(mode, name, at, b"END");
+    let end = is_word_any_case::<E>(name, at, b"END");
     if end {
         return Kind::End;
     }
@@ -43,11 +44,11 @@ fn kind_of(mode: usize, name: &[u8], at: usize) -> Kind
 }
 
 // The line at `at`.
-pub fn entry_at(edition: Edition, mode: usize, s: &[u8], at: usize) -> Found
-    requires { Ready mode s.now at × (at < length s.now) }
-    ensures { FoundAt edition mode s.now at result }
+pub fn entry_at<E: Encoding>(edition: Edition, s: &[u8], at: usize) -> Found
+    requires { Ready E.encoding s.now at × (at < length s.now) }
+    ensures { FoundAt edition E.encoding s.now at result }
 {
-    let Some(ending) = line_end(mode, s, at) else {
+    let Some(ending) = line_end::<E>(s, at) else {
         return Found {
             kind: Kind::Nothing,
             line: LineCursors {
@@ -59,7 +60,7 @@ pub fn entry_at(edition: Edition, mode: usize, s: &[u8], at: usize) -> Found
             next: s.len(),
         };
     };
-    let Some(l) = line_at(mode, &s[..ending.end], at) else {
+    let Some(l) = line_at::<E>(&s[..ending.end], at) else {
         return Found {
             kind: Kind::Nothing,
             line: LineCursors {
@@ -73,7 +74,7 @@ pub fn entry_at(edition: Edition, mode: usize, s: &[u8], at: usize) -> Found
     };
     let n = l.parameters;
     Found {
-        kind: kind_of(mode, &s[..n], l.name),
+        kind: kind_of::<E>(&s[..n], l.name),
         line: l,
         end: ending.end,
         next: ending.next,

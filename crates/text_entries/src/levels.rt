@@ -6,6 +6,7 @@ ghost use Rattle.text_entries.specs.Levels.{whole, AheadAt};
 
 use crate::passing::pass_component;
 use edition::Edition;
+use source::Encoding;
 
 // The cursor of the first subcomponent, or of what ends the component; whether there is no subcomponent; and if there is
 // none, the cursor behind the component's END.
@@ -17,16 +18,16 @@ pub struct Ahead {
 }
 
 // The same, where the component stands `left` levels deep at most with those inside it: on the last level nothing stands inside it.
-pub fn cut_at_level(edition: Edition, mode: usize, s: &[u8], all: Ahead, left: usize) -> Ahead
-    requires { Ready mode s.now all.inner }
-    ensures { (from : ℕ) → AheadAt edition whole mode s.now from all →
-        AheadAt edition (shallow (left - 1)) mode s.now from result }
+pub fn cut_at_level<E: Encoding>(edition: Edition, s: &[u8], all: Ahead, left: usize) -> Ahead
+    requires { Ready E.encoding s.now all.inner }
+    ensures { (from : ℕ) → AheadAt edition whole E.encoding s.now from all →
+        AheadAt edition (shallow (left - 1)) E.encoding s.now from result }
 {
     if all.bare {
         return all;
     }
     if left < 2 {
-        let next = pass_component(edition, mode, s, all.inner);
+        let next = pass_component::<E>(edition, s, all.inner);
         return Ahead {
             inner: all.inner,
             bare: true,

@@ -13,6 +13,7 @@ ghost use Rattle.calls_jcal.specs.ToJcal.{to_jcal_outcome, to_jcal_output, to_jc
 use calls::Answer;
 use edition::Edition;
 use read_text_whole::read_whole;
+use source::Plain;
 use write_jcal::put_jcal;
 
 // The jCal of an unfolded text, where there is certainly room for it.
@@ -21,7 +22,7 @@ fn written_at_once(edition: Edition, kept: &[u8], out: &mut [u8]) -> Answer
     ensures { Done (converted write_jcal (answer fine (calendar_of edition (lines kept.now)))) out.old
         out.new result }
 {
-    Answer::Written(put_jcal(out, 0, edition, 0, kept))
+    Answer::Written(put_jcal::<Plain>(out, 0, edition, kept))
 }
 
 // The jCal of an unfolded text: first how long it is, then, if there is room, all of it.
@@ -30,9 +31,9 @@ fn measured(edition: Edition, kept: &[u8], out: &mut [u8]) -> Answer
     ensures { Done (converted write_jcal (answer fine (calendar_of edition (lines kept.now)))) out.old
         out.new result }
 {
-    let need = put_jcal(&mut out[..0], 0, edition, 0, kept);
+    let need = put_jcal::<Plain>(&mut out[..0], 0, edition, kept);
     if need <= out.len() {
-        put_jcal(out, 0, edition, 0, kept);
+        put_jcal::<Plain>(out, 0, edition, kept);
         return Answer::Written(need);
     }
     Answer::Needs(need)

@@ -6,6 +6,7 @@ ghost use Rattle.calls.specs.Answered.{outcome_of};
 use crate::written;
 use calls::Answer;
 use read_text_whole::read_folded;
+use source::Folded;
 
 // Converts the iCalendar text `input`, read in the edition of the number `edition`, to canonical XML in `out`.
 pub fn to_xml_folded(input: &[u8], out: &mut [u8], edition: u32) -> Answer
@@ -13,7 +14,7 @@ pub fn to_xml_folded(input: &[u8], out: &mut [u8], edition: u32) -> Answer
         × (out.new ≡ to_xml_folded_output input.now out.old edition) }
 {
     match read_folded(input, edition) {
-        Ok(kept) => written(kept.edition, 2, input, out),
+        Ok(kept) => written::<Folded>(kept.edition, input, out),
         Err(fault) => Answer::from(fault),
     }
 }

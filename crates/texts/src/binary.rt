@@ -11,7 +11,7 @@ ghost use Rattle.texts.specs.Binary.{is_base64_char, base64_value, pad_fits, in_
 use bits::low_bits;
 use octets::unit::{END, EQUALS, LOWER_A, PLUS, SLASH, UPPER_A};
 use octets::{is_alpha, is_capital, is_digit, is_small, is_space};
-use source::unit;
+use source::{Encoding, unit};
 
 // What a small letter is above its worth: a is worth 26.
 const SMALL_BASE: usize = LOWER_A - 26;
@@ -92,14 +92,14 @@ fn is_whole(n: usize) -> bool
     n == 0 || n == 5
 }
 
-pub fn read_binary(xcal: bool, mode: usize, s: &[u8], at: usize) -> bool
-    ensures { result ≡ is_binary (binary_chars (format_of xcal) (rest mode s.now at)) }
+pub fn read_binary<E: Encoding>(xcal: bool, s: &[u8], at: usize) -> bool
+    ensures { result ≡ is_binary (binary_chars (format_of xcal) (rest E.encoding s.now at)) }
 {
     let mut n = 0;
     let mut last = 0;
     let mut c = at;
     loop {
-        let t = unit(mode, s, c);
+        let t = unit::<E>(s, c);
         if t.u == END {
             return is_whole(n);
         }

@@ -15,7 +15,7 @@ use crate::unknown::read_unknown;
 use crate::uri::read_uri;
 use octets::unit::END;
 use sink::put;
-use source::unit;
+use source::{Encoding, unit};
 use tags::put_escaped;
 
 fn put_byte(out: &mut [u8], at: usize, b: u8) -> usize
@@ -24,13 +24,13 @@ fn put_byte(out: &mut [u8], at: usize, b: u8) -> usize
     put(out, at, b)
 }
 
-fn put_chars(out: &mut [u8], at: usize, mode: usize, s: &[u8], from: usize) -> usize
-    ensures { Put out.old out.new at result (as_is (rest mode s.now from)) }
+fn put_chars<E: Encoding>(out: &mut [u8], at: usize, s: &[u8], from: usize) -> usize
+    ensures { Put out.old out.new at result (as_is (rest E.encoding s.now from)) }
 {
     let mut o = at;
     let mut c = from;
     loop {
-        let t = unit(mode, s, c);
+        let t = unit::<E>(s, c);
         if t.u == END {
             return o;
         }
@@ -40,56 +40,56 @@ fn put_chars(out: &mut [u8], at: usize, mode: usize, s: &[u8], from: usize) -> u
 }
 
 // A URI as iCalendar text has it; nothing where it is none.
-pub fn put_uri(out: &mut [u8], at: usize, mode: usize, s: &[u8], from: usize) -> usize
-    ensures { Put out.old out.new at result (or_nothing as_is (read_uri (rest mode s.now from))) }
+pub fn put_uri<E: Encoding>(out: &mut [u8], at: usize, s: &[u8], from: usize) -> usize
+    ensures { Put out.old out.new at result (or_nothing as_is (read_uri (rest E.encoding s.now from))) }
 {
-    if read_uri(mode, s, from) {
-        return put_chars(out, at, mode, s, from);
+    if read_uri::<E>(s, from) {
+        return put_chars::<E>(out, at, s, from);
     }
     at
 }
 
 // The same as character data of XML.
-pub fn put_uri_xml(out: &mut [u8], at: usize, mode: usize, s: &[u8], from: usize) -> usize
+pub fn put_uri_xml<E: Encoding>(out: &mut [u8], at: usize, s: &[u8], from: usize) -> usize
     ensures { Put out.old out.new at result
-        (or_nothing escaped (read_uri (rest mode s.now from))) }
+        (or_nothing escaped (read_uri (rest E.encoding s.now from))) }
 {
-    if read_uri(mode, s, from) {
-        return put_escaped(out, at, mode, s, from);
+    if read_uri::<E>(s, from) {
+        return put_escaped::<E>(out, at, s, from);
     }
     at
 }
 
 // A value of no known type as iCalendar text has it; nothing where it is none.
-pub fn put_unknown(out: &mut [u8], at: usize, mode: usize, s: &[u8], from: usize) -> usize
+pub fn put_unknown<E: Encoding>(out: &mut [u8], at: usize, s: &[u8], from: usize) -> usize
     ensures { Put out.old out.new at result
-        (or_nothing as_is (read_unknown (rest mode s.now from))) }
+        (or_nothing as_is (read_unknown (rest E.encoding s.now from))) }
 {
-    if read_unknown(mode, s, from) {
-        return put_chars(out, at, mode, s, from);
+    if read_unknown::<E>(s, from) {
+        return put_chars::<E>(out, at, s, from);
     }
     at
 }
 
 // The same as character data of XML.
-pub fn put_unknown_xml(out: &mut [u8], at: usize, mode: usize, s: &[u8], from: usize) -> usize
+pub fn put_unknown_xml<E: Encoding>(out: &mut [u8], at: usize, s: &[u8], from: usize) -> usize
     ensures { Put out.old out.new at result
-        (or_nothing escaped (read_unknown (rest mode s.now from))) }
+        (or_nothing escaped (read_unknown (rest E.encoding s.now from))) }
 {
-    if read_unknown(mode, s, from) {
-        return put_escaped(out, at, mode, s, from);
+    if read_unknown::<E>(s, from) {
+        return put_escaped::<E>(out, at, s, from);
     }
     at
 }
 
-fn put_base64(out: &mut [u8], at: usize, xcal: bool, mode: usize, s: &[u8], from: usize) -> usize
+fn put_base64<E: Encoding>(out: &mut [u8], at: usize, xcal: bool, s: &[u8], from: usize) -> usize
     ensures { Put out.old out.new at result
-        (binary_chars (format_of xcal) (rest mode s.now from)) }
+        (binary_chars (format_of xcal) (rest E.encoding s.now from)) }
 {
     let mut o = at;
     let mut c = from;
     loop {
-        let t = unit(mode, s, c);
+        let t = unit::<E>(s, c);
         if t.u == END {
             return o;
         }
@@ -103,19 +103,18 @@ fn put_base64(out: &mut [u8], at: usize, xcal: bool, mode: usize, s: &[u8], from
 }
 
 // BINARY, in iCalendar text and in XML alike, without the white space of XML; nothing where it is none.
-pub fn put_binary(
+pub fn put_binary<E: Encoding>(
     out: &mut [u8],
     at: usize,
     xcal: bool,
-    mode: usize,
     s: &[u8],
     from: usize,
 ) -> usize
     ensures { Put out.old out.new at result
-        (or_nothing as_is (read_binary (format_of xcal) (rest mode s.now from))) }
+        (or_nothing as_is (read_binary (format_of xcal) (rest E.encoding s.now from))) }
 {
-    if read_binary(xcal, mode, s, from) {
-        return put_base64(out, at, xcal, mode, s, from);
+    if read_binary::<E>(xcal, s, from) {
+        return put_base64::<E>(out, at, xcal, s, from);
     }
     at
 }

@@ -6,7 +6,7 @@ ghost use Rattle.texts.specs.Items.{is_between, ItemEnds};
 
 use crate::text::{is_break, is_opening};
 use octets::unit::END;
-use source::unit;
+use source::{Encoding, unit};
 
 // A bare separator.
 fn is_between(after: bool, sep: usize, u: usize) -> bool
@@ -16,13 +16,13 @@ fn is_between(after: bool, sep: usize, u: usize) -> bool
 }
 
 // The cursor of the first bare separator from the cursor `at` on, or of the end.
-pub fn item_end(sep: usize, mode: usize, s: &[u8], at: usize) -> usize
-    ensures { ItemEnds sep mode s.now at result }
+pub fn item_end<E: Encoding>(sep: usize, s: &[u8], at: usize) -> usize
+    ensures { ItemEnds sep E.encoding s.now at result }
 {
     let mut after = false;
     let mut c = at;
     loop {
-        let t = unit(mode, s, c);
+        let t = unit::<E>(s, c);
         if t.u == END || is_between(after, sep, t.u) {
             return c;
         }

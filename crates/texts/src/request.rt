@@ -2,7 +2,7 @@
 ghost use Rattle.std.specs.Prelude.{◌≡◌, true};
 ghost use Rattle.octets.specs.Reading.{or_nothing};
 ghost use Rattle.sink.specs.Sink.{Put};
-ghost use Rattle.source.specs.Source.{rest, cuts};
+ghost use Rattle.source.specs.Source.{rest};
 ghost use Rattle.texts.specs.RequestStatus.{read_request_status};
 ghost use Rattle.texts.specs.StatusParts.{soon_over, PartsFound, StatusEnds};
 ghost use Rattle.texts.specs.StatusXml.{status_xml, data_behind, parts_xml};
@@ -13,96 +13,85 @@ use crate::items::item_end;
 use crate::text::read_text;
 use markup::element;
 use octets::unit::{END, SEMICOLON};
-use source::unit;
+use source::{Cuttable, Encoding, unit};
 
 // Nothing stands at the cursor, or a semicolon and the last part.
-fn is_soon_over(mode: usize, s: &[u8], at: usize) -> bool
-    ensures { result ≡ soon_over (rest mode s.now at) }
+fn is_soon_over<E: Encoding>(s: &[u8], at: usize) -> bool
+    ensures { result ≡ soon_over (rest E.encoding s.now at) }
 {
-    let separator = unit(mode, s, at);
+    let separator = unit::<E>(s, at);
     if separator.u == END {
         return true;
     }
-    let end = item_end(SEMICOLON, mode, s, separator.next);
-    unit(mode, s, end).u == END
+    let end = item_end::<E>(SEMICOLON, s, separator.next);
+    unit::<E>(s, end).u == END
 }
 
-fn find_parts(mode: usize, s: &[u8], at: usize) -> Option<StatusParts>
-    ensures { PartsFound mode s.now at result }
+fn find_parts<E: Encoding>(s: &[u8], at: usize) -> Option<StatusParts>
+    ensures { PartsFound E.encoding s.now at result }
 {
-    let code_end = item_end(SEMICOLON, mode, s, at);
-    let separator = unit(mode, s, code_end);
+    let code_end = item_end::<E>(SEMICOLON, s, at);
+    let separator = unit::<E>(s, code_end);
     if separator.u == END {
         return None;
     }
     let description = separator.next;
-    let description_end = item_end(SEMICOLON, mode, s, description);
-    is_soon_over(mode, s, description_end).then_some(StatusParts {
+    let description_end = item_end::<E>(SEMICOLON, s, description);
+    is_soon_over::<E>(s, description_end).then_some(StatusParts {
         code_end,
         description,
         description_end,
     })
 }
 
-pub fn read_request_status(mode: usize, s: &[u8], at: usize) -> Option<StatusParts>
-    ensures { StatusEnds mode s.now at result }
+pub fn read_request_status<E: Encoding>(s: &[u8], at: usize) -> Option<StatusParts>
+    ensures { StatusEnds E.encoding s.now at result }
 {
-    if read_text(SEMICOLON, mode, s, at) {
-        return find_parts(mode, s, at);
+    if read_text::<E>(SEMICOLON, s, at) {
+        return find_parts::<E>(s, at);
     }
     None
 }
 
 // The element `data`, where a semicolon stands at the cursor.
-fn put_data_xml(out: &mut [u8], at: usize, mode: usize, s: &[u8], from: usize) -> usize
-    ensures { Put out.old out.new at result (data_behind (rest mode s.now from)) }
+fn put_data_xml<E: Encoding>(out: &mut [u8], at: usize, s: &[u8], from: usize) -> usize
+    ensures { Put out.old out.new at result (data_behind (rest E.encoding s.now from)) }
 {
-    let n = unit(mode, s, from);
+    let n = unit::<E>(s, from);
     if n.u == END {
         return at;
     }
-    put_text_element(out, at, &element::DATA, mode, s, n.next, s.len())
+    put_text_element::<E>(out, at, &element::DATA, s, n.next, s.len())
 }
 
-fn put_parts_xml(
+fn put_parts_xml<E: Encoding>(
     out: &mut [u8],
     at: usize,
-    mode: usize,
     s: &[u8],
     from: usize,
     parts: StatusParts,
 ) -> usize
     ensures { Put out.old out.new at result
-        (parts_xml mode s.now from parts.code_end parts.description parts.description_end) }
+        (parts_xml E.encoding s.now from parts.code_end parts.description parts.description_end) }
 {
     let end = parts.description_end;
-    let o = put_text_element(out, at, &element::CODE, mode, s, from, parts.code_end);
-    let e = put_text_element(
-        out,
-        o,
-        &element::DESCRIPTION,
-        mode,
-        s,
-        parts.description,
-        end,
-    );
-    put_data_xml(out, e, mode, s, end)
+    let o = put_text_element::<E>(out, at, &element::CODE, s, from, parts.code_end);
+    let e = put_text_element::<E>(out, o, &element::DESCRIPTION, s, parts.description, end);
+    put_data_xml::<E>(out, e, s, end)
 }
 
 // A REQUEST-STATUS as its elements; nothing where it is none.
-pub fn put_request_status_xml(
+pub fn put_request_status_xml<E: Cuttable>(
     out: &mut [u8],
     at: usize,
-    mode: usize,
     s: &[u8],
     from: usize,
 ) -> usize
-    requires { cuts mode ≡ true }
     ensures { Put out.old out.new at result
-        (or_nothing status_xml (read_request_status (rest mode s.now from))) }
+        (or_nothing status_xml (read_request_status (rest E.encoding s.now from))) }
 {
-    let Some(parts) = read_request_status(mode, s, from) else {
+    let Some(parts) = read_request_status::<E>(s, from) else {
         return at;
     };
-    put_parts_xml(out, at, mode, s, from, parts)
+    put_parts_xml::<E>(out, at, s, from, parts)
 }

@@ -8,7 +8,7 @@ ghost use Rattle.texts.specs.Text.{is_break, is_escaped, opens, split_text, read
 ghost use Rattle.texts.specs.Unescaped.{is_newline, is_escape, in_text};
 
 use octets::unit::{BACKSLASH, COMMA, END, LOWER_N, SEMICOLON, UPPER_N};
-use source::{other_unit, plain_unit};
+use source::{Encoding, unit};
 
 // Comma or semicolon.
 pub fn is_break(u: usize) -> bool
@@ -59,36 +59,14 @@ pub fn is_opening(after: bool, u: usize) -> bool
     !after && u == BACKSLASH
 }
 
-// The same over bytes as they stand.
-fn read_text_plain(sep: usize, s: &[u8], at: usize) -> bool
-    ensures { result ≡ is_read (split_text sep (rest 0 s.now at)) }
-{
-    let mut after = false;
-    let mut c = at;
-    loop {
-        let t = plain_unit(s, c);
-        if t.u == END {
-            return !after;
-        }
-        if !in_text(after, sep, t.u) {
-            return false;
-        }
-        after = is_opening(after, t.u);
-        c = t.next;
-    }
-}
-
 // Texts between bare separators: COMMA, SEMICOLON, or 0 for none. At the end no backslash may stand open.
-pub fn read_text(sep: usize, mode: usize, s: &[u8], at: usize) -> bool
-    ensures { result ≡ is_read (split_text sep (rest mode s.now at)) }
+pub fn read_text<E: Encoding>(sep: usize, s: &[u8], at: usize) -> bool
+    ensures { result ≡ is_read (split_text sep (rest E.encoding s.now at)) }
 {
-    if mode == 0 {
-        return read_text_plain(sep, s, at);
-    }
     let mut after = false;
     let mut c = at;
     loop {
-        let t = other_unit(mode, s, c);
+        let t = unit::<E>(s, c);
         if t.u == END {
             return !after;
         }
@@ -100,8 +78,8 @@ pub fn read_text(sep: usize, mode: usize, s: &[u8], at: usize) -> bool
     }
 }
 
-pub fn read_one_text(mode: usize, s: &[u8], at: usize) -> bool
-    ensures { result ≡ is_read (read_text (rest mode s.now at)) }
+pub fn read_one_text<E: Encoding>(s: &[u8], at: usize) -> bool
+    ensures { result ≡ is_read (read_text (rest E.encoding s.now at)) }
 {
-    read_text(0, mode, s, at)
+    read_text::<E>(0, s, at)
 }

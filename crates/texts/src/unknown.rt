@@ -4,14 +4,14 @@ ghost use Rattle.source.specs.Source.{rest};
 ghost use Rattle.texts.specs.Unknown.{is_unknown};
 
 use octets::unit::{END, LF};
-use source::unit;
+use source::{Encoding, unit};
 
-pub fn read_unknown(mode: usize, s: &[u8], at: usize) -> bool
-    ensures { result ≡ is_unknown (rest mode s.now at) }
+pub fn read_unknown<E: Encoding>(s: &[u8], at: usize) -> bool
+    ensures { result ≡ is_unknown (rest E.encoding s.now at) }
 {
     let mut c = at;
     loop {
-        let t = unit(mode, s, c);
+        let t = unit::<E>(s, c);
         if t.u == END {
             return true;
         }

@@ -11,7 +11,7 @@ use octets::unit::{
     QUOTE, RIGHT_BRACE,
 };
 use octets::{is_alpha, is_digit, is_visible};
-use source::unit;
+use source::{Encoding, unit};
 
 fn is_scheme_char(u: usize) -> bool
     ensures { result ≡ is_scheme_char u }
@@ -56,13 +56,13 @@ fn past_colon(past: bool, u: usize) -> bool
 }
 
 // What follows the first letter.
-fn read_after(mode: usize, s: &[u8], from: usize) -> bool
-    ensures { result ≡ uri_from false (rest mode s.now from) }
+fn read_after<E: Encoding>(s: &[u8], from: usize) -> bool
+    ensures { result ≡ uri_from false (rest E.encoding s.now from) }
 {
     let mut past = false;
     let mut c = from;
     loop {
-        let t = unit(mode, s, c);
+        let t = unit::<E>(s, c);
         if t.u == END {
             return past;
         }
@@ -74,9 +74,9 @@ fn read_after(mode: usize, s: &[u8], from: usize) -> bool
     }
 }
 
-pub fn read_uri(mode: usize, s: &[u8], at: usize) -> bool
-    ensures { result ≡ is_uri (rest mode s.now at) }
+pub fn read_uri<E: Encoding>(s: &[u8], at: usize) -> bool
+    ensures { result ≡ is_uri (rest E.encoding s.now at) }
 {
-    let t = unit(mode, s, at);
-    is_alpha(t.u) && read_after(mode, s, t.next)
+    let t = unit::<E>(s, at);
+    is_alpha(t.u) && read_after::<E>(s, t.next)
 }

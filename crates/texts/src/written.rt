@@ -12,7 +12,7 @@ ghost use Rattle.texts.specs.Unescaped.{meant, unescaped};
 use crate::text::{is_escaped, is_opening, read_one_text};
 use octets::unit::END;
 use sink::put;
-use source::unit;
+use source::{Encoding, unit};
 use tags::put_escaped_byte;
 
 // The character that a byte stands for.
@@ -25,14 +25,14 @@ fn meant_by(after: bool, b: u8) -> u8
     }
 }
 
-fn put_unescaped(out: &mut [u8], at: usize, mode: usize, s: &[u8], from: usize) -> usize
-    ensures { Put out.old out.new at result (escaped (unescaped false (rest mode s.now from))) }
+fn put_unescaped<E: Encoding>(out: &mut [u8], at: usize, s: &[u8], from: usize) -> usize
+    ensures { Put out.old out.new at result (escaped (unescaped false (rest E.encoding s.now from))) }
 {
     let mut o = at;
     let mut after = false;
     let mut c = from;
     loop {
-        let t = unit(mode, s, c);
+        let t = unit::<E>(s, c);
         if t.u == END {
             return o;
         }
@@ -49,12 +49,12 @@ fn put_unescaped(out: &mut [u8], at: usize, mode: usize, s: &[u8], from: usize) 
 }
 
 // A TEXT of iCalendar text as XML's character data; nothing where it is none.
-pub fn put_text_xml(out: &mut [u8], at: usize, mode: usize, s: &[u8], from: usize) -> usize
+pub fn put_text_xml<E: Encoding>(out: &mut [u8], at: usize, s: &[u8], from: usize) -> usize
     ensures { Put out.old out.new at result
-        (or_nothing escaped (read_text (rest mode s.now from))) }
+        (or_nothing escaped (read_text (rest E.encoding s.now from))) }
 {
-    if read_one_text(mode, s, from) {
-        return put_unescaped(out, at, mode, s, from);
+    if read_one_text::<E>(s, from) {
+        return put_unescaped::<E>(out, at, s, from);
     }
     at
 }
@@ -74,13 +74,13 @@ fn put_text_byte(out: &mut [u8], at: usize, b: u8) -> usize
 }
 
 // The characters from the cursor `from` to the end of the source as a TEXT of iCalendar text.
-pub fn put_text_escaped(out: &mut [u8], at: usize, mode: usize, s: &[u8], from: usize) -> usize
-    ensures { Put out.old out.new at result (write_text (rest mode s.now from)) }
+pub fn put_text_escaped<E: Encoding>(out: &mut [u8], at: usize, s: &[u8], from: usize) -> usize
+    ensures { Put out.old out.new at result (write_text (rest E.encoding s.now from)) }
 {
     let mut o = at;
     let mut c = from;
     loop {
-        let t = unit(mode, s, c);
+        let t = unit::<E>(s, c);
         if t.u == END {
             return o;
         }

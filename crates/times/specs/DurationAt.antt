@@ -7,14 +7,14 @@ use Rattle.octets.specs.Scan.{span_len}
 use Rattle.octets.specs.Class.{is_digit}
 use Rattle.octets.specs.Reading.{is_read}
 use Rattle.source.specs.Source.{rest, spell}
-use Rattle.source.specs.declared.Step.{Step}
+use Rattle.source.specs.declared.points.Unit.{Unit}
 use Rattle.times.specs.Letters.{cased}
 use Rattle.times.specs.Written.{mark_bytes}
 use Rattle.times.specs.declared.duration.Duration.{Duration}
 
-pub record Runs (e : Bool) (m : ℕ) (s : List ℕ) (c : ℕ) (r : Option Step) : Type 0 where
+pub record Runs (e : Bool) (m : ℕ) (s : List ℕ) (c : ℕ) (r : Option Unit) : Type 0 where
   pub some_digit : ltb 0 (span_len is_digit (cased e (rest m s c))) ≡ is_read r
-  pub is : (a : Step) → r ≡ Some a → drop (span_len is_digit (cased e (rest m s c))) (cased e (rest m s c)) ≡ spell a.u (cased e (rest m s a.next))
+  pub is : (a : Unit) → r ≡ Some a → drop (span_len is_digit (cased e (rest m s c))) (cased e (rest m s c)) ≡ spell a.u (cased e (rest m s a.next))
 
 -- a duration, if there is one
 abbrev pub span_if : Bool → Bool → ℕ → Option Duration

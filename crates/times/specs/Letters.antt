@@ -4,13 +4,13 @@
 use Rattle.std.specs.Prelude.{◌≡◌, Bool, true, false, List, ℕ, ◌+◌, ◌*◌, ◌/◌, ◌^◌, ◌≤◌, ◌<◌, length}
 use Rattle.octets.specs.Class.{upper}
 use Rattle.source.specs.Source.{rest, spell}
-use Rattle.source.specs.declared.Step.{Step}
+use Rattle.source.specs.declared.points.Unit.{Unit}
 
 unfoldable pub cased : Bool → List ℕ → List ℕ
 cased true s = s
 cased false s = upper s
 
-pub record Spells (e : Bool) (m : ℕ) (s : List ℕ) (c : ℕ) (r : Step) : Type 0 where
+pub record Spells (e : Bool) (m : ℕ) (s : List ℕ) (c : ℕ) (r : Unit) : Type 0 where
   pub is : cased e (rest m s c) ≡ spell r.u (cased e (rest m s r.next))
   pub small : r.u ≤ 256
   pub moved : c < r.next + r.u / 256 * 2 ^ 64

@@ -12,6 +12,7 @@ use crate::follow::{Walk, follow};
 use crate::letters::ended;
 use crate::written::put_day;
 use gregorian::is_day;
+use source::Encoding;
 
 // A day of the calendar.
 #[derive(Clone, Copy, Debug, PartialEq, Eq)]
@@ -35,40 +36,39 @@ pub fn day_from(n: usize) -> Option<Date>
     }
 }
 
-fn follow_date(xcal: bool, mode: usize, s: &[u8], at: usize) -> Option<Walk>
-    ensures { Walks (date_pattern (format_of xcal)) true mode s.now at result }
+fn follow_date<E: Encoding>(xcal: bool, s: &[u8], at: usize) -> Option<Walk>
+    ensures { Walks (date_pattern (format_of xcal)) true E.encoding s.now at result }
 {
     if xcal {
-        follow(b"0000-00-00", true, mode, s, at)
+        follow::<E>(b"0000-00-00", true, s, at)
     } else {
-        follow(b"00000000", true, mode, s, at)
+        follow::<E>(b"00000000", true, s, at)
     }
 }
 
-pub fn read_date(xcal: bool, mode: usize, s: &[u8], at: usize) -> Option<Date>
-    ensures { read_date (format_of xcal) (rest mode s.now at) ≡ day_of result }
+pub fn read_date<E: Encoding>(xcal: bool, s: &[u8], at: usize) -> Option<Date>
+    ensures { read_date (format_of xcal) (rest E.encoding s.now at) ≡ day_of result }
 {
-    let walk = follow_date(xcal, mode, s, at)?;
-    if ended(mode, s, walk.next) {
+    let walk = follow_date::<E>(xcal, s, at)?;
+    if ended::<E>(s, walk.next) {
         day_from(walk.number)
     } else {
         None
     }
 }
 
-pub fn put_date(
+pub fn put_date<E: Encoding>(
     out: &mut [u8],
     o: usize,
     from: bool,
     to: bool,
-    mode: usize,
     s: &[u8],
     at: usize,
 ) -> usize
     ensures { Put out.old out.new o result
-        (or_nothing (write_date (format_of to)) (read_date (format_of from) (rest mode s.now at))) }
+        (or_nothing (write_date (format_of to)) (read_date (format_of from) (rest E.encoding s.now at))) }
 {
-    match read_date(from, mode, s, at) {
+    match read_date::<E>(from, s, at) {
         Some(date) => put_day(out, o, to, date),
         None => o,
     }

@@ -14,6 +14,7 @@ use crate::follow::{Walk, follow};
 use crate::time::{Time, Zone, clock_from, zone_at};
 use crate::written::{put_clock, put_day};
 use sink::put;
+use source::Encoding;
 
 #[derive(Clone, Copy, Debug, PartialEq, Eq)]
 pub struct DateTime {
@@ -30,21 +31,21 @@ pub fn moment_from(n: usize, zone: Zone) -> Option<DateTime>
     Some(DateTime { date, time })
 }
 
-pub fn follow_date_time(xcal: bool, mode: usize, s: &[u8], at: usize) -> Option<Walk>
-    ensures { Walks (date_time_pattern (format_of xcal)) xcal mode s.now at result }
+pub fn follow_date_time<E: Encoding>(xcal: bool, s: &[u8], at: usize) -> Option<Walk>
+    ensures { Walks (date_time_pattern (format_of xcal)) xcal E.encoding s.now at result }
 {
     if xcal {
-        follow(b"0000-00-00T00:00:00", true, mode, s, at)
+        follow::<E>(b"0000-00-00T00:00:00", true, s, at)
     } else {
-        follow(b"00000000T000000", false, mode, s, at)
+        follow::<E>(b"00000000T000000", false, s, at)
     }
 }
 
-pub fn read_date_time(xcal: bool, mode: usize, s: &[u8], at: usize) -> Option<DateTime>
-    ensures { read_date_time (format_of xcal) (rest mode s.now at) ≡ moment_of result }
+pub fn read_date_time<E: Encoding>(xcal: bool, s: &[u8], at: usize) -> Option<DateTime>
+    ensures { read_date_time (format_of xcal) (rest E.encoding s.now at) ≡ moment_of result }
 {
-    let walk = follow_date_time(xcal, mode, s, at)?;
-    let zone = zone_at(xcal, mode, s, walk.next)?;
+    let walk = follow_date_time::<E>(xcal, s, at)?;
+    let zone = zone_at::<E>(xcal, s, walk.next)?;
     moment_from(walk.number, zone)
 }
 
@@ -56,19 +57,18 @@ pub fn put_moment(out: &mut [u8], o: usize, to: bool, moment: DateTime) -> usize
     put_clock(out, q, to, moment.time)
 }
 
-pub fn put_date_time(
+pub fn put_date_time<E: Encoding>(
     out: &mut [u8],
     o: usize,
     from: bool,
     to: bool,
-    mode: usize,
     s: &[u8],
     at: usize,
 ) -> usize
     ensures { Put out.old out.new o result
-        (or_nothing (write_date_time (format_of to)) (read_date_time (format_of from) (rest mode s.now at))) }
+        (or_nothing (write_date_time (format_of to)) (read_date_time (format_of from) (rest E.encoding s.now at))) }
 {
-    match read_date_time(from, mode, s, at) {
+    match read_date_time::<E>(from, s, at) {
         Some(moment) => put_moment(out, o, to, moment),
         None => o,
     }

@@ -8,6 +8,7 @@ ghost use Rattle.times.specs.Followed.{Walks};
 use crate::letters::letter;
 use octets::unit::{HYPHEN, NINE, PLUS, ZERO};
 use octets::{is_digit, wide};
+use source::Encoding;
 
 // The number of a pattern's digits, and the cursor after all of the pattern.
 #[derive(Clone, Copy, Debug, PartialEq, Eq)]
@@ -59,16 +60,16 @@ fn tallied(k: usize, n: usize, u: usize) -> usize
 }
 
 // The pattern `p` followed from the cursor `at`.
-pub fn follow(p: &[u8], exact: bool, mode: usize, s: &[u8], at: usize) -> Option<Walk>
+pub fn follow<E: Encoding>(p: &[u8], exact: bool, s: &[u8], at: usize) -> Option<Walk>
     requires { length p.now ≤ 19 }
-    ensures { Walks p.now exact mode s.now at result }
+    ensures { Walks p.now exact E.encoding s.now at result }
 {
     let mut number: usize = 0;
     let mut c = at;
     let mut i = 0;
     while i < p.len() {
         let k = wide(p[i]);
-        let a = letter(exact, mode, s, c);
+        let a = letter::<E>(exact, s, c);
         if !passing(k, a.u) {
             return None;
         }

@@ -6,7 +6,7 @@ ghost use Rattle.source.specs.Source.{rest};
 ghost use Rattle.times.specs.Letters.{Spells};
 
 use octets::unit::{CASE_STEP, END, LOWER_A, LOWER_Z};
-use source::{Step, unit};
+use source::{Encoding, Unit, unit};
 
 // A letter as a capital.
 fn capital(u: usize) -> usize
@@ -22,23 +22,23 @@ fn capital(u: usize) -> usize
 }
 
 // The character at the cursor `at`, as it stands or in capitals; END at the end.
-pub fn letter(exact: bool, mode: usize, s: &[u8], at: usize) -> Step
-    ensures { Spells exact mode s.now at result }
+pub fn letter<E: Encoding>(exact: bool, s: &[u8], at: usize) -> Unit
+    ensures { Spells exact E.encoding s.now at result }
 {
-    let a = unit(mode, s, at);
+    let a = unit::<E>(s, at);
     if exact {
         return a;
     }
-    Step {
+    Unit {
         u: capital(a.u),
         next: a.next,
     }
 }
 
 // Whether nothing is left from the cursor `at` on.
-pub fn ended(mode: usize, s: &[u8], at: usize) -> bool
-    ensures { result ≡ is_empty (rest mode s.now at) }
+pub fn ended<E: Encoding>(s: &[u8], at: usize) -> bool
+    ensures { result ≡ is_empty (rest E.encoding s.now at) }
 {
-    let a = unit(mode, s, at);
+    let a = unit::<E>(s, at);
     a.u == END
 }

@@ -15,7 +15,7 @@ use crate::time::is_hms;
 use crate::written::{put_marked, put_two};
 use octets::unit::HYPHEN;
 use sink::put;
-use source::unit;
+use source::{Encoding, unit};
 
 // The second, if it was given.
 #[derive(Clone, Copy, Debug, PartialEq, Eq)]
@@ -27,42 +27,42 @@ pub struct UtcOffset {
 }
 
 // The pattern `p` followed to the end: the number of its digits.
-fn follow_whole(p: &[u8], mode: usize, s: &[u8], at: usize) -> Option<usize>
+fn follow_whole<E: Encoding>(p: &[u8], s: &[u8], at: usize) -> Option<usize>
     requires { length p.now ≤ 19 }
-    ensures { WalksToEnd p.now mode s.now at result }
+    ensures { WalksToEnd p.now E.encoding s.now at result }
 {
-    let walk = follow(p, true, mode, s, at)?;
-    if ended(mode, s, walk.next) {
+    let walk = follow::<E>(p, true, s, at)?;
+    if ended::<E>(s, walk.next) {
         Some(walk.number)
     } else {
         None
     }
 }
 
-fn follow_minutes(xcal: bool, mode: usize, s: &[u8], at: usize) -> Option<usize>
-    ensures { WalksToEnd (minute_pattern (format_of xcal)) mode s.now at result }
+fn follow_minutes<E: Encoding>(xcal: bool, s: &[u8], at: usize) -> Option<usize>
+    ensures { WalksToEnd (minute_pattern (format_of xcal)) E.encoding s.now at result }
 {
     if xcal {
-        follow_whole(b"+00:00", mode, s, at)
+        follow_whole::<E>(b"+00:00", s, at)
     } else {
-        follow_whole(b"+0000", mode, s, at)
+        follow_whole::<E>(b"+0000", s, at)
     }
 }
 
-fn follow_seconds(xcal: bool, mode: usize, s: &[u8], at: usize) -> Option<usize>
-    ensures { WalksToEnd (second_pattern (format_of xcal)) mode s.now at result }
+fn follow_seconds<E: Encoding>(xcal: bool, s: &[u8], at: usize) -> Option<usize>
+    ensures { WalksToEnd (second_pattern (format_of xcal)) E.encoding s.now at result }
 {
     if xcal {
-        follow_whole(b"+00:00:00", mode, s, at)
+        follow_whole::<E>(b"+00:00:00", s, at)
     } else {
-        follow_whole(b"+000000", mode, s, at)
+        follow_whole::<E>(b"+000000", s, at)
     }
 }
 
-fn minus_at(mode: usize, s: &[u8], at: usize) -> bool
-    ensures { result ≡ is_minus (rest mode s.now at) }
+fn minus_at<E: Encoding>(s: &[u8], at: usize) -> bool
+    ensures { result ≡ is_minus (rest E.encoding s.now at) }
 {
-    let a = unit(mode, s, at);
+    let a = unit::<E>(s, at);
     a.u == HYPHEN
 }
 
@@ -97,14 +97,14 @@ fn shift_from(negative: bool, given: bool, n: usize) -> Option<UtcOffset>
     None
 }
 
-pub fn read_utc_offset(xcal: bool, mode: usize, s: &[u8], at: usize) -> Option<UtcOffset>
-    ensures { read_utc_offset (format_of xcal) (rest mode s.now at) ≡ shift_of result }
+pub fn read_utc_offset<E: Encoding>(xcal: bool, s: &[u8], at: usize) -> Option<UtcOffset>
+    ensures { read_utc_offset (format_of xcal) (rest E.encoding s.now at) ≡ shift_of result }
 {
-    let negative = minus_at(mode, s, at);
-    if let Some(four) = follow_minutes(xcal, mode, s, at) {
+    let negative = minus_at::<E>(s, at);
+    if let Some(four) = follow_minutes::<E>(xcal, s, at) {
         return shift_from(negative, false, four % 10000 * 100);
     }
-    let six = follow_seconds(xcal, mode, s, at)?;
+    let six = follow_seconds::<E>(xcal, s, at)?;
     shift_from(negative, true, six)
 }
 
@@ -133,19 +133,18 @@ fn put_shift(out: &mut [u8], o: usize, to: bool, offset: UtcOffset) -> usize
     put_last(out, e, to, offset.second)
 }
 
-pub fn put_utc_offset(
+pub fn put_utc_offset<E: Encoding>(
     out: &mut [u8],
     o: usize,
     from: bool,
     to: bool,
-    mode: usize,
     s: &[u8],
     at: usize,
 ) -> usize
     ensures { Put out.old out.new o result
-        (or_nothing (write_utc_offset (format_of to)) (read_utc_offset (format_of from) (rest mode s.now at))) }
+        (or_nothing (write_utc_offset (format_of to)) (read_utc_offset (format_of from) (rest E.encoding s.now at))) }
 {
-    match read_utc_offset(from, mode, s, at) {
+    match read_utc_offset::<E>(from, s, at) {
         Some(offset) => put_shift(out, o, to, offset),
         None => o,
     }

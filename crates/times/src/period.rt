@@ -17,6 +17,7 @@ use crate::duration::{put_duration, read_duration};
 use crate::letters::letter;
 use crate::time::Zone;
 use octets::unit::{SLASH, UPPER_Z};
+use source::Encoding;
 
 // The zone and the slash after the start's digits: the zone, and the cursor after the slash.
 #[derive(Clone, Copy, Debug, PartialEq, Eq)]
@@ -33,10 +34,10 @@ pub struct Period {
     pub at: usize,
 }
 
-fn slash_at(mode: usize, s: &[u8], at: usize) -> Option<Cut>
-    ensures { Cuts mode s.now at result }
+fn slash_at<E: Encoding>(s: &[u8], at: usize) -> Option<Cut>
+    ensures { Cuts E.encoding s.now at result }
 {
-    let a = letter(false, mode, s, at);
+    let a = letter::<E>(false, s, at);
     if a.u == SLASH {
         return Some(Cut {
             zone: Zone::Local,
@@ -46,7 +47,7 @@ fn slash_at(mode: usize, s: &[u8], at: usize) -> Option<Cut>
     if a.u != UPPER_Z {
         return None;
     }
-    let b = letter(false, mode, s, a.next);
+    let b = letter::<E>(false, s, a.next);
     if b.u == SLASH {
         return Some(Cut {
             zone: Zone::Utc,
@@ -57,17 +58,17 @@ fn slash_at(mode: usize, s: &[u8], at: usize) -> Option<Cut>
 }
 
 // The period with this start, and with what stands from the cursor `at`, after the slash.
-fn period_from(start: DateTime, mode: usize, s: &[u8], at: usize) -> Option<Period>
-    ensures { Periods (period_upper (date_time_of start) (cased false (rest mode s.now at))) mode s.now result }
+fn period_from<E: Encoding>(start: DateTime, s: &[u8], at: usize) -> Option<Period>
+    ensures { Periods (period_upper (date_time_of start) (cased false (rest E.encoding s.now at))) E.encoding s.now result }
 {
-    if read_date_time(false, mode, s, at).is_some() {
+    if read_date_time::<E>(false, s, at).is_some() {
         return Some(Period {
             start,
             explicit: true,
             at,
         });
     }
-    read_duration(false, mode, s, at)?;
+    read_duration::<E>(false, s, at)?;
     Some(Period {
         start,
         explicit: false,
@@ -75,43 +76,43 @@ fn period_from(start: DateTime, mode: usize, s: &[u8], at: usize) -> Option<Peri
     })
 }
 
-pub fn read_period(mode: usize, s: &[u8], at: usize) -> Option<Period>
-    ensures { Periods (read_period (rest mode s.now at)) mode s.now result }
+pub fn read_period<E: Encoding>(s: &[u8], at: usize) -> Option<Period>
+    ensures { Periods (read_period (rest E.encoding s.now at)) E.encoding s.now result }
 {
-    let walk = follow_date_time(false, mode, s, at)?;
-    let cut = slash_at(mode, s, walk.next)?;
+    let walk = follow_date_time::<E>(false, s, at)?;
+    let cut = slash_at::<E>(s, walk.next)?;
     let start = moment_from(walk.number, cut.zone)?;
-    period_from(start, mode, s, cut.next)
+    period_from::<E>(start, s, cut.next)
 }
 
 // What stands after the slash, to XML.
-fn put_end(out: &mut [u8], o: usize, explicit: bool, mode: usize, s: &[u8], at: usize) -> usize
-    ensures { Put out.old out.new o result (end_bytes explicit (rest mode s.now at)) }
+fn put_end<E: Encoding>(out: &mut [u8], o: usize, explicit: bool, s: &[u8], at: usize) -> usize
+    ensures { Put out.old out.new o result (end_bytes explicit (rest E.encoding s.now at)) }
 {
     if explicit {
-        put_date_time(out, o, false, true, mode, s, at)
+        put_date_time::<E>(out, o, false, true, s, at)
     } else {
-        put_duration(out, o, false, true, mode, s, at)
+        put_duration::<E>(out, o, false, true, s, at)
     }
 }
 
 // The start of a period, to XML.
-pub fn put_period_start(out: &mut [u8], o: usize, mode: usize, s: &[u8], at: usize) -> usize
+pub fn put_period_start<E: Encoding>(out: &mut [u8], o: usize, s: &[u8], at: usize) -> usize
     ensures { Put out.old out.new o result
-        (or_nothing start_xml (read_period (rest mode s.now at))) }
+        (or_nothing start_xml (read_period (rest E.encoding s.now at))) }
 {
-    match read_period(mode, s, at) {
+    match read_period::<E>(s, at) {
         Some(period) => put_moment(out, o, true, period.start),
         None => o,
     }
 }
 
 // The end of a period, or its duration, to XML.
-pub fn put_period_end(out: &mut [u8], o: usize, mode: usize, s: &[u8], at: usize) -> usize
-    ensures { Put out.old out.new o result (or_nothing end_xml (read_period (rest mode s.now at))) }
+pub fn put_period_end<E: Encoding>(out: &mut [u8], o: usize, s: &[u8], at: usize) -> usize
+    ensures { Put out.old out.new o result (or_nothing end_xml (read_period (rest E.encoding s.now at))) }
 {
-    match read_period(mode, s, at) {
-        Some(period) => put_end(out, o, period.explicit, mode, s, period.at),
+    match read_period::<E>(s, at) {
+        Some(period) => put_end::<E>(out, o, period.explicit, s, period.at),
         None => o,
     }
 }

@@ -13,6 +13,7 @@ use crate::follow::{Walk, follow};
 use crate::letters::{ended, letter};
 use crate::written::put_clock;
 use octets::unit::{END, UPPER_Z};
+use source::Encoding;
 
 // A time of day.
 #[derive(Clone, Copy, Debug, PartialEq, Eq)]
@@ -48,14 +49,14 @@ pub fn is_hms(h: u8, m: u8, s: u8) -> bool
 }
 
 // What stands from the cursor `at` on, if it is a zone.
-pub fn zone_at(exact: bool, mode: usize, s: &[u8], at: usize) -> Option<Zone>
-    ensures { result ≡ zone (cased exact (rest mode s.now at)) }
+pub fn zone_at<E: Encoding>(exact: bool, s: &[u8], at: usize) -> Option<Zone>
+    ensures { result ≡ zone (cased exact (rest E.encoding s.now at)) }
 {
-    let a = letter(exact, mode, s, at);
+    let a = letter::<E>(exact, s, at);
     if a.u == END {
         return Some(Zone::Local);
     }
-    if a.u == UPPER_Z && ended(mode, s, a.next) {
+    if a.u == UPPER_Z && ended::<E>(s, a.next) {
         return Some(Zone::Utc);
     }
     None
@@ -81,37 +82,36 @@ pub fn clock_from(n: usize, zone: Zone) -> Option<Time>
     }
 }
 
-fn follow_time(xcal: bool, mode: usize, s: &[u8], at: usize) -> Option<Walk>
-    ensures { Walks (time_pattern (format_of xcal)) xcal mode s.now at result }
+fn follow_time<E: Encoding>(xcal: bool, s: &[u8], at: usize) -> Option<Walk>
+    ensures { Walks (time_pattern (format_of xcal)) xcal E.encoding s.now at result }
 {
     if xcal {
-        follow(b"00:00:00", true, mode, s, at)
+        follow::<E>(b"00:00:00", true, s, at)
     } else {
-        follow(b"000000", false, mode, s, at)
+        follow::<E>(b"000000", false, s, at)
     }
 }
 
-pub fn read_time(xcal: bool, mode: usize, s: &[u8], at: usize) -> Option<Time>
-    ensures { read_time (format_of xcal) (rest mode s.now at) ≡ clock_of result }
+pub fn read_time<E: Encoding>(xcal: bool, s: &[u8], at: usize) -> Option<Time>
+    ensures { read_time (format_of xcal) (rest E.encoding s.now at) ≡ clock_of result }
 {
-    let walk = follow_time(xcal, mode, s, at)?;
-    let zone = zone_at(xcal, mode, s, walk.next)?;
+    let walk = follow_time::<E>(xcal, s, at)?;
+    let zone = zone_at::<E>(xcal, s, walk.next)?;
     clock_from(walk.number, zone)
 }
 
-pub fn put_time(
+pub fn put_time<E: Encoding>(
     out: &mut [u8],
     o: usize,
     from: bool,
     to: bool,
-    mode: usize,
     s: &[u8],
     at: usize,
 ) -> usize
     ensures { Put out.old out.new o result
-        (or_nothing (write_time (format_of to)) (read_time (format_of from) (rest mode s.now at))) }
+        (or_nothing (write_time (format_of to)) (read_time (format_of from) (rest E.encoding s.now at))) }
 {
-    match read_time(from, mode, s, at) {
+    match read_time::<E>(from, s, at) {
         Some(time) => put_clock(out, o, to, time),
         None => o,
     }

@@ -8,21 +8,22 @@ ghost use Rattle.values.specs.ReadValue.{read_value};
 use numbers::boolean::read_boolean;
 use numbers::float::read_float;
 use numbers::integer::read_integer;
+use source::Encoding;
 
-pub fn is_boolean(xcal: bool, mode: usize, s: &[u8], at: usize) -> bool
-    ensures { result ≡ is_read (read_value (format_of xcal) BOOLEAN (rest mode s.now at)) }
+pub fn is_boolean<E: Encoding>(xcal: bool, s: &[u8], at: usize) -> bool
+    ensures { result ≡ is_read (read_value (format_of xcal) BOOLEAN (rest E.encoding s.now at)) }
 {
-    read_boolean(xcal, mode, s, at).is_some()
+    read_boolean::<E>(xcal, s, at).is_some()
 }
 
-pub fn is_float(xcal: bool, mode: usize, s: &[u8], at: usize) -> bool
-    ensures { result ≡ is_read (read_value (format_of xcal) FLOAT (rest mode s.now at)) }
+pub fn is_float<E: Encoding>(xcal: bool, s: &[u8], at: usize) -> bool
+    ensures { result ≡ is_read (read_value (format_of xcal) FLOAT (rest E.encoding s.now at)) }
 {
-    read_float(mode, s, at).is_some()
+    read_float::<E>(s, at).is_some()
 }
 
-pub fn is_integer(xcal: bool, mode: usize, s: &[u8], at: usize) -> bool
-    ensures { result ≡ is_read (read_value (format_of xcal) INTEGER (rest mode s.now at)) }
+pub fn is_integer<E: Encoding>(xcal: bool, s: &[u8], at: usize) -> bool
+    ensures { result ≡ is_read (read_value (format_of xcal) INTEGER (rest E.encoding s.now at)) }
 {
-    read_integer(mode, s, at).is_some()
+    read_integer::<E>(s, at).is_some()
 }

@@ -7,54 +7,53 @@ ghost use Rattle.values.specs.ReadValue.{read_value};
 ghost use Rattle.values.specs.ValueAt.{is_read_at};
 
 use recur::rule::read_rule;
+use source::{Cut, Encoding, Folded, Plain};
 use texts::{read_binary, read_one_text, read_unknown, read_uri};
 
-pub fn is_binary(xcal: bool, mode: usize, s: &[u8], at: usize) -> bool
-    ensures { result ≡ is_read (read_value (format_of xcal) BINARY (rest mode s.now at)) }
+pub fn is_binary<E: Encoding>(xcal: bool, s: &[u8], at: usize) -> bool
+    ensures { result ≡ is_read (read_value (format_of xcal) BINARY (rest E.encoding s.now at)) }
 {
-    read_binary(xcal, mode, s, at)
+    read_binary::<E>(xcal, s, at)
 }
 
-pub fn is_cal_address(xcal: bool, mode: usize, s: &[u8], at: usize) -> bool
-    ensures { result ≡ is_read (read_value (format_of xcal) CAL-ADDRESS (rest mode s.now at)) }
+pub fn is_cal_address<E: Encoding>(xcal: bool, s: &[u8], at: usize) -> bool
+    ensures { result ≡ is_read (read_value (format_of xcal) CAL-ADDRESS (rest E.encoding s.now at)) }
 {
-    read_uri(mode, s, at)
+    read_uri::<E>(s, at)
 }
 
 // RECUR is made of elements in XML, and in text it is read in an encoding that can be cut.
-pub fn is_recur(xcal: bool, mode: usize, s: &[u8], at: usize) -> bool
-    ensures { result ≡ is_read_at xcal mode RECUR (rest mode s.now at) }
+pub fn is_recur<E: Encoding>(xcal: bool, s: &[u8], at: usize) -> bool
+    ensures { result ≡ is_read_at xcal E.encoding RECUR (rest E.encoding s.now at) }
 {
     if xcal {
         return false;
     }
-    if mode == 0 {
-        return read_rule(mode, s, at);
+    match E::cut() {
+        Some(Cut::Plain) => read_rule::<Plain>(s, at),
+        Some(Cut::Folded) => read_rule::<Folded>(s, at),
+        None => false,
     }
-    if mode == 2 {
-        return read_rule(mode, s, at);
-    }
-    false
 }
 
 // In XML any characters are a TEXT.
-pub fn is_text(xcal: bool, mode: usize, s: &[u8], at: usize) -> bool
-    ensures { result ≡ is_read (read_value (format_of xcal) TEXT (rest mode s.now at)) }
+pub fn is_text<E: Encoding>(xcal: bool, s: &[u8], at: usize) -> bool
+    ensures { result ≡ is_read (read_value (format_of xcal) TEXT (rest E.encoding s.now at)) }
 {
     if xcal {
         return true;
     }
-    read_one_text(mode, s, at)
+    read_one_text::<E>(s, at)
 }
 
-pub fn is_uri(xcal: bool, mode: usize, s: &[u8], at: usize) -> bool
-    ensures { result ≡ is_read (read_value (format_of xcal) URI (rest mode s.now at)) }
+pub fn is_uri<E: Encoding>(xcal: bool, s: &[u8], at: usize) -> bool
+    ensures { result ≡ is_read (read_value (format_of xcal) URI (rest E.encoding s.now at)) }
 {
-    read_uri(mode, s, at)
+    read_uri::<E>(s, at)
 }
 
-pub fn is_unknown(xcal: bool, mode: usize, s: &[u8], at: usize) -> bool
-    ensures { result ≡ is_read (read_value (format_of xcal) UNKNOWN (rest mode s.now at)) }
+pub fn is_unknown<E: Encoding>(xcal: bool, s: &[u8], at: usize) -> bool
+    ensures { result ≡ is_read (read_value (format_of xcal) UNKNOWN (rest E.encoding s.now at)) }
 {
-    read_unknown(mode, s, at)
+    read_unknown::<E>(s, at)
 }

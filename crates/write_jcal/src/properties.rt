@@ -2,7 +2,6 @@
 ghost use Rattle.std.specs.Prelude.{◌≡◌, true, ◌≤◌, length};
 ghost use Rattle.octets.specs.Append.{◌⊕◌};
 ghost use Rattle.octets.specs.Words.{joined_by};
-ghost use Rattle.source.specs.Source.{cuts};
 ghost use Rattle.read_text_line.specs.Ready.{Ready};
 ghost use Rattle.sink.specs.Sink.{Put};
 ghost use Rattle.schema.specs.Numbers.{component_name};
@@ -16,6 +15,7 @@ ghost use Rattle.write_jcal.specs.Places.{PropertiesPut, LeadingPut};
 
 use edition::Edition;
 use read_text_line::LineCursors;
+use source::Cuttable;
 use text_entries::{Ahead, Kind, entry_at, pass_component};
 use write_jcal_property::put_property;
 use write_json::put_separator;
@@ -36,41 +36,39 @@ pub struct Walked {
 }
 
 // A property behind what separates it from another.
-fn put_next_property(
+fn put_next_property<E: Cuttable>(
     out: &mut [u8],
     o: usize,
     started: bool,
     edition: Edition,
     k: usize,
-    mode: usize,
     s: &[u8],
     l: LineCursors,
 ) -> usize
-    requires { (cuts mode ≡ true) × (l.parameters ≤ length s.now) }
-    ensures { Put out.old out.new o result (separator started ⊕ parts_json edition k mode s.now l) }
+    requires { l.parameters ≤ length s.now }
+    ensures { Put out.old out.new o result (separator started ⊕ parts_json edition k E.encoding s.now l) }
 {
     let a = put_separator(out, o, started);
-    put_property(out, a, edition, k, mode, s, l)
+    put_property::<E>(out, a, edition, k, s, l)
 }
 
 // The properties of the component of the number `k` whose lines begin at `from`, up to its first subcomponent.
-fn put_leading(
+fn put_leading<E: Cuttable>(
     out: &mut [u8],
     o: usize,
     edition: Edition,
     k: usize,
-    mode: usize,
     s: &[u8],
     from: usize,
 ) -> Led
-    requires { Ready mode s.now from }
-    ensures { LeadingPut edition out.old out.new o k mode s.now from result }
+    requires { Ready E.encoding s.now from }
+    ensures { LeadingPut edition out.old out.new o k E.encoding s.now from result }
 {
     let mut p = o;
     let mut started = false;
     let mut at = from;
     while at < s.len() {
-        let f = entry_at(edition, mode, s, at);
+        let f = entry_at::<E>(edition, s, at);
         match f.kind {
             Kind::Begin => {
                 let ahead = Ahead {
@@ -98,7 +96,7 @@ fn put_leading(
             }
             Kind::Property => {
                 let l = f.line;
-                p = put_next_property(out, p, started, edition, k, mode, &s[..f.end], l);
+                p = put_next_property::<E>(out, p, started, edition, k, &s[..f.end], l);
                 started = true;
                 at = f.next;
             }
@@ -120,35 +118,34 @@ fn put_leading(
 }
 
 // Those from `from` on, between and behind its subcomponents too.
-fn put_following(
+fn put_following<E: Cuttable>(
     out: &mut [u8],
     o: usize,
     before: bool,
     edition: Edition,
     k: usize,
-    mode: usize,
     s: &[u8],
     from: usize,
 ) -> usize
-    requires { Ready mode s.now from }
+    requires { Ready E.encoding s.now from }
     ensures { Put out.old out.new o result
-        (following before (own_json (component_name k) (entries_at edition mode s.now from))) }
+        (following before (own_json (component_name k) (entries_at edition E.encoding s.now from))) }
 {
     let mut p = o;
     let mut started = before;
     let mut at = from;
     while at < s.len() {
-        let f = entry_at(edition, mode, s, at);
+        let f = entry_at::<E>(edition, s, at);
         match f.kind {
             Kind::Begin => {
-                at = pass_component(edition, mode, s, f.next);
+                at = pass_component::<E>(edition, s, f.next);
             }
             Kind::End => {
                 return p;
             }
             Kind::Property => {
                 let l = f.line;
-                p = put_next_property(out, p, started, edition, k, mode, &s[..f.end], l);
+                p = put_next_property::<E>(out, p, started, edition, k, &s[..f.end], l);
                 started = true;
                 at = f.next;
             }
@@ -161,25 +158,24 @@ fn put_following(
 }
 
 // All of them: those before the first subcomponent, and the rest where there is one.
-pub fn put_properties(
+pub fn put_properties<E: Cuttable>(
     out: &mut [u8],
     o: usize,
     edition: Edition,
     k: usize,
-    mode: usize,
     s: &[u8],
     from: usize,
 ) -> Walked
-    requires { Ready mode s.now from }
+    requires { Ready E.encoding s.now from }
     ensures { PropertiesPut edition whole out.old out.new o
-        (joined_by value_separator (own_json (component_name k) (entries_at edition mode s.now from))) mode
+        (joined_by value_separator (own_json (component_name k) (entries_at edition E.encoding s.now from))) E.encoding
         s.now from result }
 {
-    let a = put_leading(out, o, edition, k, mode, s, from);
+    let a = put_leading::<E>(out, o, edition, k, s, from);
     let ahead = a.ahead;
     if ahead.bare {
         return Walked { to: a.to, ahead };
     }
-    let b = put_following(out, a.to, a.started, edition, k, mode, s, ahead.inner);
+    let b = put_following::<E>(out, a.to, a.started, edition, k, s, ahead.inner);
     Walked { to: b, ahead }
 }

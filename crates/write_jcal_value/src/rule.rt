@@ -4,7 +4,7 @@ ghost use Rattle.octets.specs.Append.{◌⊕◌};
 ghost use Rattle.octets.specs.Front.{up_to};
 ghost use Rattle.octets.specs.Words.{cut_at, joined_by};
 ghost use Rattle.sink.specs.Sink.{Put};
-ghost use Rattle.source.specs.Source.{rest, cuts, Within};
+ghost use Rattle.source.specs.Source.{rest, Within};
 ghost use Rattle.recur.specs.Parts.{part_of, part_names};
 ghost use Rattle.recur.specs.Rule.{items_of};
 ghost use Rattle.recur.specs.Noted.{Standing};
@@ -18,7 +18,7 @@ use recur::part;
 use recur::rule::{byte_end, is_list_part, value_at};
 use recur::written::put_shown;
 use sink::put;
-use source::unit;
+use source::{Cuttable, Encoding, unit};
 use write_json::put_separator;
 
 // For each part, whether its items are numbers.
@@ -34,31 +34,31 @@ fn has_numbers(p: usize) -> bool
 }
 
 // An item of the part at the place `p`.
-fn put_item_json(out: &mut [u8], o: usize, p: usize, mode: usize, s: &[u8], at: usize) -> usize
+fn put_item_json<E: Encoding>(out: &mut [u8], o: usize, p: usize, s: &[u8], at: usize) -> usize
     ensures { Put out.old out.new o result
-        (item_shown (get_or part_names p []) (rest mode s.now at)) }
+        (item_shown (get_or part_names p []) (rest E.encoding s.now at)) }
 {
     let number = has_numbers(p);
     if number {
-        return put_shown(out, o, p, false, true, mode, s, at);
+        return put_shown::<E>(out, o, p, false, true, s, at);
     }
     let a = put(out, o, b'"');
-    let b = put_shown(out, a, p, false, true, mode, s, at);
+    let b = put_shown::<E>(out, a, p, false, true, s, at);
     put(out, b, b'"')
 }
 
 // The items between commas.
-fn put_each_item(out: &mut [u8], o: usize, p: usize, mode: usize, s: &[u8], at: usize) -> usize
-    requires { Within mode s.now at }
+fn put_each_item<E: Encoding>(out: &mut [u8], o: usize, p: usize, s: &[u8], at: usize) -> usize
+    requires { Within E.encoding s.now at }
     ensures { Put out.old out.new o result
-        (joined_by value_separator (map (item_shown (get_or part_names p [])) (cut_at 44 (rest mode s.now at)))) }
+        (joined_by value_separator (map (item_shown (get_or part_names p [])) (cut_at 44 (rest E.encoding s.now at)))) }
 {
     let mut q = o;
     let mut c = at;
     loop {
-        let e = byte_end(COMMA, mode, s, c);
-        let a = put_item_json(out, q, p, mode, &s[..e], c);
-        let n = unit(mode, s, e);
+        let e = byte_end::<E>(COMMA, s, c);
+        let a = put_item_json::<E>(out, q, p, &s[..e], c);
+        let n = unit::<E>(s, e);
         let u = n.u;
         if u == END {
             return a;
@@ -69,85 +69,83 @@ fn put_each_item(out: &mut [u8], o: usize, p: usize, mode: usize, s: &[u8], at: 
 }
 
 // The same in an array, but one item alone.
-fn put_items_json(out: &mut [u8], o: usize, p: usize, mode: usize, s: &[u8], at: usize) -> usize
-    requires { Within mode s.now at }
+fn put_items_json<E: Encoding>(out: &mut [u8], o: usize, p: usize, s: &[u8], at: usize) -> usize
+    requires { Within E.encoding s.now at }
     ensures { Put out.old out.new o result
-        (items_shown (get_or part_names p []) (cut_at 44 (rest mode s.now at))) }
+        (items_shown (get_or part_names p []) (cut_at 44 (rest E.encoding s.now at))) }
 {
-    let e = byte_end(COMMA, mode, s, at);
-    let n = unit(mode, s, e);
+    let e = byte_end::<E>(COMMA, s, at);
+    let n = unit::<E>(s, e);
     let u = n.u;
     if u == END {
-        return put_item_json(out, o, p, mode, &s[..e], at);
+        return put_item_json::<E>(out, o, p, &s[..e], at);
     }
     let a = put(out, o, b'[');
-    let b = put_each_item(out, a, p, mode, s, at);
+    let b = put_each_item::<E>(out, a, p, s, at);
     put(out, b, b']')
 }
 
 // The items of the part at the place `p`, from behind = on.
-fn put_part_items(out: &mut [u8], o: usize, p: usize, mode: usize, s: &[u8], at: usize) -> usize
-    requires { Within mode s.now at }
+fn put_part_items<E: Encoding>(out: &mut [u8], o: usize, p: usize, s: &[u8], at: usize) -> usize
+    requires { Within E.encoding s.now at }
     ensures { Put out.old out.new o result
-        (items_shown (get_or part_names p []) (items_of (get_or part_names p []) (rest mode s.now at))) }
+        (items_shown (get_or part_names p []) (items_of (get_or part_names p []) (rest E.encoding s.now at))) }
 {
     let listed = is_list_part(p);
     if listed {
-        return put_items_json(out, o, p, mode, s, at);
+        return put_items_json::<E>(out, o, p, s, at);
     }
-    put_item_json(out, o, p, mode, s, at)
+    put_item_json::<E>(out, o, p, s, at)
 }
 
 // A piece that has the name at the place `p`.
-fn put_piece_json(out: &mut [u8], o: usize, p: usize, mode: usize, s: &[u8], at: usize) -> usize
-    requires { Within mode s.now at }
+fn put_piece_json<E: Encoding>(out: &mut [u8], o: usize, p: usize, s: &[u8], at: usize) -> usize
+    requires { Within E.encoding s.now at }
     ensures { Put out.old out.new o result
-        (piece_shown (get_or part_names p []) (rest mode s.now at)) }
+        (piece_shown (get_or part_names p []) (rest E.encoding s.now at)) }
 {
-    let v = value_at(mode, s, at);
+    let v = value_at::<E>(s, at);
     let a = put_part_label(out, o, p);
-    put_part_items(out, a, p, mode, s, v)
+    put_part_items::<E>(out, a, p, s, v)
 }
 
 // The part at the place `p`, whose piece begins at the cursor `at`, behind what separates it from another.
-fn put_part_json(
+fn put_part_json<E: Encoding>(
     out: &mut [u8],
     o: usize,
     started: bool,
     p: usize,
-    mode: usize,
     s: &[u8],
     at: usize,
 ) -> usize
-    requires { Within mode s.now at }
+    requires { Within E.encoding s.now at }
     ensures { Put out.old out.new o result
         (separator started ⊕
-        piece_shown (get_or part_names p []) (up_to (λ x. eqb x 59) (rest mode s.now at))) }
+        piece_shown (get_or part_names p []) (up_to (λ x. eqb x 59) (rest E.encoding s.now at))) }
 {
-    let e = byte_end(SEMICOLON, mode, s, at);
+    let e = byte_end::<E>(SEMICOLON, s, at);
     let a = put_separator(out, o, started);
-    put_piece_json(out, a, p, mode, &s[..e], at)
+    put_piece_json::<E>(out, a, p, &s[..e], at)
 }
 
 // The parts of the rule from the cursor `at` to the end, which stand where `begins` says: the cursor at its piece, if it is there.
-pub fn put_parts_json(
+pub fn put_parts_json<E: Cuttable>(
     out: &mut [u8],
     o: usize,
-    mode: usize,
     s: &[u8],
     at: usize,
     begins: [Option<usize>; 14],
 ) -> usize
-    requires { (cuts mode ≡ true) × Standing mode s.now at begins }
+    requires { Standing E.encoding s.now at begins }
     ensures { Put out.old out.new o result
-        (joined_by value_separator (named_shown part_names (cut_at 59 (rest mode s.now at)))) }
+        (joined_by value_separator (named_shown part_names (cut_at 59 (rest E.encoding s.now at)))) }
 {
     let mut q = o;
     let mut started = false;
     let mut p = 0;
     while p < part::KNOWN {
         if let Some(c) = begins[p] {
-            q = put_part_json(out, q, started, p, mode, s, c);
+            q = put_part_json::<E>(out, q, started, p, s, c);
             started = true;
         }
         p += 1;

@@ -11,7 +11,7 @@ ghost use Rattle.write_jcal_value.specs.Texts.{meant_json, bare_json, byte_json,
 
 use octets::unit::{BACKSLASH, END};
 use sink::{put, put_all};
-use source::unit;
+use source::{Encoding, unit};
 use texts::{read_one_text, read_text};
 use write_json::put_escaped_byte;
 
@@ -64,14 +64,14 @@ fn is_opening(after: bool, u: usize) -> bool
 }
 
 // All texts, without the quotation marks before the first and behind the last.
-fn put_strings(out: &mut [u8], at: usize, mode: usize, s: &[u8], from: usize) -> usize
-    ensures { Put out.old out.new at result (strings_from false (rest mode s.now from)) }
+fn put_strings<E: Encoding>(out: &mut [u8], at: usize, s: &[u8], from: usize) -> usize
+    ensures { Put out.old out.new at result (strings_from false (rest E.encoding s.now from)) }
 {
     let mut o = at;
     let mut after = false;
     let mut c = from;
     loop {
-        let t = unit(mode, s, c);
+        let t = unit::<E>(s, c);
         let u = t.u;
         if u == END {
             return o;
@@ -82,33 +82,33 @@ fn put_strings(out: &mut [u8], at: usize, mode: usize, s: &[u8], from: usize) ->
     }
 }
 
-fn put_strings_quoted(out: &mut [u8], at: usize, mode: usize, s: &[u8], from: usize) -> usize
+fn put_strings_quoted<E: Encoding>(out: &mut [u8], at: usize, s: &[u8], from: usize) -> usize
     ensures { Put out.old out.new at result
-        (ascii "\"" ⊕ strings_from false (rest mode s.now from) ⊕ ascii "\"") }
+        (ascii "\"" ⊕ strings_from false (rest E.encoding s.now from) ⊕ ascii "\"") }
 {
     let a = put(out, at, b'"');
-    let b = put_strings(out, a, mode, s, from);
+    let b = put_strings::<E>(out, a, s, from);
     put(out, b, b'"')
 }
 
 // The texts between bare separators `sep`: COMMA, SEMICOLON, or 0 for none. Nothing where they are against the grammar.
-pub fn put_texts(out: &mut [u8], at: usize, sep: usize, mode: usize, s: &[u8], from: usize) -> usize
+pub fn put_texts<E: Encoding>(out: &mut [u8], at: usize, sep: usize, s: &[u8], from: usize) -> usize
     ensures { Put out.old out.new at result
-        (or_nothing strings_of (split_text sep (rest mode s.now from))) }
+        (or_nothing strings_of (split_text sep (rest E.encoding s.now from))) }
 {
-    if read_text(sep, mode, s, from) {
-        return put_strings_quoted(out, at, mode, s, from);
+    if read_text::<E>(sep, s, from) {
+        return put_strings_quoted::<E>(out, at, s, from);
     }
     at
 }
 
 // The characters of a single TEXT; nothing where it is none.
-pub fn put_text_characters(out: &mut [u8], at: usize, mode: usize, s: &[u8], from: usize) -> usize
+pub fn put_text_characters<E: Encoding>(out: &mut [u8], at: usize, s: &[u8], from: usize) -> usize
     ensures { Put out.old out.new at result
-        (or_nothing escaped (read_text (rest mode s.now from))) }
+        (or_nothing escaped (read_text (rest E.encoding s.now from))) }
 {
-    if read_one_text(mode, s, from) {
-        return put_strings(out, at, mode, s, from);
+    if read_one_text::<E>(s, from) {
+        return put_strings::<E>(out, at, s, from);
     }
     at
 }

@@ -21,33 +21,32 @@ use crate::rule::put_parts_json;
 use recur::rule::read_parts;
 use schema::value_type;
 use sink::put;
+use source::{Cut, Cuttable, Encoding, Folded, Plain};
 use values::read_value;
 
 // The rule from the cursor `at` to the end, whose parts stand where `begins` says.
-fn put_rule_json(
+fn put_rule_json<E: Cuttable>(
     out: &mut [u8],
     o: usize,
-    mode: usize,
     s: &[u8],
     at: usize,
     begins: [Option<usize>; 14],
 ) -> usize
-    requires { (cuts mode ≡ true) × Standing mode s.now at begins }
+    requires { Standing E.encoding s.now at begins }
     ensures { Put out.old out.new o result
-        (object_of (named_shown part_names (cut_at 59 (rest mode s.now at)))) }
+        (object_of (named_shown part_names (cut_at 59 (rest E.encoding s.now at)))) }
 {
     let p = put(out, o, b'{');
-    let q = put_parts_json(out, p, mode, s, at, begins);
+    let q = put_parts_json::<E>(out, p, s, at, begins);
     put(out, q, b'}')
 }
 
-fn put_recur_json(out: &mut [u8], o: usize, mode: usize, s: &[u8], at: usize) -> usize
-    requires { cuts mode ≡ true }
+fn put_recur_json<E: Cuttable>(out: &mut [u8], o: usize, s: &[u8], at: usize) -> usize
     ensures { Put out.old out.new o result
-        (or_nothing value_json (read_value ical RECUR (rest mode s.now at))) }
+        (or_nothing value_json (read_value ical RECUR (rest E.encoding s.now at))) }
 {
-    match read_parts(mode, s, at) {
-        Some(begins) => put_rule_json(out, o, mode, s, at, begins),
+    match read_parts::<E>(s, at) {
+        Some(begins) => put_rule_json::<E>(out, o, s, at, begins),
         None => o,
     }
 }
@@ -66,42 +65,55 @@ fn stands_bare(t: usize) -> bool
 }
 
 // The characters of a value, as they stand or as a string.
-fn put_scalar(out: &mut [u8], o: usize, t: usize, mode: usize, s: &[u8], at: usize) -> usize
+fn put_scalar<E: Encoding>(out: &mut [u8], o: usize, t: usize, s: &[u8], at: usize) -> usize
     ensures { Put out.old out.new o result (plain_json (stands_bare t)
-        (or_nothing (λ v. escaped (value_characters v)) (read_value ical (type_at t) (rest mode s.now at)))) }
+        (or_nothing (λ v. escaped (value_characters v)) (read_value ical (type_at t) (rest E.encoding s.now at)))) }
 {
     let bare = stands_bare(t);
     if bare {
-        return put_characters(out, o, t, mode, s, at);
+        return put_characters::<E>(out, o, t, s, at);
     }
     let a = put(out, o, b'"');
-    let b = put_characters(out, a, t, mode, s, at);
+    let b = put_characters::<E>(out, a, t, s, at);
     put(out, b, b'"')
 }
 
 // A value of a type that has characters: not PERIOD, not RECUR.
-fn put_plain_json(out: &mut [u8], o: usize, t: usize, mode: usize, s: &[u8], at: usize) -> usize
+fn put_plain_json<E: Encoding>(out: &mut [u8], o: usize, t: usize, s: &[u8], at: usize) -> usize
     requires { (t ≡ 8 → ⊥) × (t ≡ 9 → ⊥) }
     ensures { Put out.old out.new o result
-        (or_nothing value_json (read_value ical (type_at t) (rest mode s.now at))) }
+        (or_nothing value_json (read_value ical (type_at t) (rest E.encoding s.now at))) }
 {
-    match read_value(false, t, mode, s, at) {
-        Some(_) => put_scalar(out, o, t, mode, s, at),
+    match read_value::<E>(false, t, s, at) {
+        Some(_) => put_scalar::<E>(out, o, t, s, at),
+        None => o,
+    }
+}
+
+// A rule, in an encoding that can be cut.
+fn put_cut_rule_json<E: Encoding>(out: &mut [u8], o: usize, s: &[u8], at: usize) -> usize
+    requires { cuts E.encoding ≡ true }
+    ensures { Put out.old out.new o result
+        (or_nothing value_json (read_value ical RECUR (rest E.encoding s.now at))) }
+{
+    match E::cut() {
+        Some(Cut::Plain) => put_recur_json::<Plain>(out, o, s, at),
+        Some(Cut::Folded) => put_recur_json::<Folded>(out, o, s, at),
         None => o,
     }
 }
 
 // The value of the type at the place `t`, from the cursor `at` to the end; nothing where it is none. A rule is written only in an encoding that can be cut.
-pub fn put_value_json(out: &mut [u8], o: usize, t: usize, mode: usize, s: &[u8], at: usize) -> usize
-    requires { t ≡ 9 → cuts mode ≡ true }
+pub fn put_value_json<E: Encoding>(out: &mut [u8], o: usize, t: usize, s: &[u8], at: usize) -> usize
+    requires { t ≡ 9 → cuts E.encoding ≡ true }
     ensures { Put out.old out.new o result
-        (or_nothing value_json (read_value ical (type_at t) (rest mode s.now at))) }
+        (or_nothing value_json (read_value ical (type_at t) (rest E.encoding s.now at))) }
 {
     if t == value_type::PERIOD {
-        return put_period_json(out, o, mode, s, at);
+        return put_period_json::<E>(out, o, s, at);
     }
     if t == value_type::RECUR {
-        return put_recur_json(out, o, mode, s, at);
+        return put_cut_rule_json::<E>(out, o, s, at);
     }
-    put_plain_json(out, o, t, mode, s, at)
+    put_plain_json::<E>(out, o, t, s, at)
 }

@@ -11,7 +11,7 @@ ghost use Rattle.write_json.specs.Separated.{separator};
 use octets::unit::END;
 use octets::{lower_unit, upper_unit};
 use sink::{put, put_all};
-use source::unit;
+use source::{Encoding, unit};
 
 // A character's byte, or its escape.
 pub fn put_escaped_byte(out: &mut [u8], at: usize, b: u8) -> usize
@@ -33,13 +33,13 @@ pub fn put_escaped_byte(out: &mut [u8], at: usize, b: u8) -> usize
 }
 
 // The characters from the cursor `from` to the end of the source.
-pub fn put_escaped(out: &mut [u8], at: usize, mode: usize, s: &[u8], from: usize) -> usize
-    ensures { Put out.old out.new at result (escaped (rest mode s.now from)) }
+pub fn put_escaped<E: Encoding>(out: &mut [u8], at: usize, s: &[u8], from: usize) -> usize
+    ensures { Put out.old out.new at result (escaped (rest E.encoding s.now from)) }
 {
     let mut o = at;
     let mut c = from;
     loop {
-        let t = unit(mode, s, c);
+        let t = unit::<E>(s, c);
         let u = t.u;
         if u == END {
             return o;
@@ -50,13 +50,13 @@ pub fn put_escaped(out: &mut [u8], at: usize, mode: usize, s: &[u8], from: usize
 }
 
 // The same in small letters.
-fn put_escaped_small(out: &mut [u8], at: usize, mode: usize, s: &[u8], from: usize) -> usize
-    ensures { Put out.old out.new at result (escaped (lower (rest mode s.now from))) }
+fn put_escaped_small<E: Encoding>(out: &mut [u8], at: usize, s: &[u8], from: usize) -> usize
+    ensures { Put out.old out.new at result (escaped (lower (rest E.encoding s.now from))) }
 {
     let mut o = at;
     let mut c = from;
     loop {
-        let t = unit(mode, s, c);
+        let t = unit::<E>(s, c);
         let u = t.u;
         if u == END {
             return o;
@@ -68,13 +68,13 @@ fn put_escaped_small(out: &mut [u8], at: usize, mode: usize, s: &[u8], from: usi
 }
 
 // The same in capitals.
-fn put_escaped_capitals(out: &mut [u8], at: usize, mode: usize, s: &[u8], from: usize) -> usize
-    ensures { Put out.old out.new at result (escaped (upper (rest mode s.now from))) }
+fn put_escaped_capitals<E: Encoding>(out: &mut [u8], at: usize, s: &[u8], from: usize) -> usize
+    ensures { Put out.old out.new at result (escaped (upper (rest E.encoding s.now from))) }
 {
     let mut o = at;
     let mut c = from;
     loop {
-        let t = unit(mode, s, c);
+        let t = unit::<E>(s, c);
         let u = t.u;
         if u == END {
             return o;
@@ -86,29 +86,29 @@ fn put_escaped_capitals(out: &mut [u8], at: usize, mode: usize, s: &[u8], from: 
 }
 
 // What stands from the cursor on, as a string.
-pub fn put_quoted(out: &mut [u8], at: usize, mode: usize, s: &[u8], from: usize) -> usize
-    ensures { Put out.old out.new at result (quoted (rest mode s.now from)) }
+pub fn put_quoted<E: Encoding>(out: &mut [u8], at: usize, s: &[u8], from: usize) -> usize
+    ensures { Put out.old out.new at result (quoted (rest E.encoding s.now from)) }
 {
     let a = put(out, at, b'"');
-    let b = put_escaped(out, a, mode, s, from);
+    let b = put_escaped::<E>(out, a, s, from);
     put(out, b, b'"')
 }
 
 // The same in small letters, as names stand.
-pub fn put_small_quoted(out: &mut [u8], at: usize, mode: usize, s: &[u8], from: usize) -> usize
-    ensures { Put out.old out.new at result (quoted (lower (rest mode s.now from))) }
+pub fn put_small_quoted<E: Encoding>(out: &mut [u8], at: usize, s: &[u8], from: usize) -> usize
+    ensures { Put out.old out.new at result (quoted (lower (rest E.encoding s.now from))) }
 {
     let a = put(out, at, b'"');
-    let b = put_escaped_small(out, a, mode, s, from);
+    let b = put_escaped_small::<E>(out, a, s, from);
     put(out, b, b'"')
 }
 
 // The same in capitals, as words of closed sets stand.
-pub fn put_capitals_quoted(out: &mut [u8], at: usize, mode: usize, s: &[u8], from: usize) -> usize
-    ensures { Put out.old out.new at result (quoted (upper (rest mode s.now from))) }
+pub fn put_capitals_quoted<E: Encoding>(out: &mut [u8], at: usize, s: &[u8], from: usize) -> usize
+    ensures { Put out.old out.new at result (quoted (upper (rest E.encoding s.now from))) }
 {
     let a = put(out, at, b'"');
-    let b = put_escaped_capitals(out, a, mode, s, from);
+    let b = put_escaped_capitals::<E>(out, a, s, from);
     put(out, b, b'"')
 }
 

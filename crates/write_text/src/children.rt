@@ -11,13 +11,14 @@ use markup::{element, table};
 use names::{find_word, is_word};
 use read_xml_nodes::{NodeKind, node_end, node_head};
 use schema::{property, value_type};
+use source::Plain;
 
 // The name from `name` to `end` is `w`.
 fn is_named(s: &[u8], name: usize, end: usize, w: &[u8]) -> bool
     requires { end ≤ length s.now }
     ensures { result ≡ same (name_in s.now name end) w.now }
 {
-    is_word(0, &s[..end], name, w)
+    is_word::<Plain>(&s[..end], name, w)
 }
 
 // It is `parameters`.
@@ -61,26 +62,26 @@ pub fn inside_of(s: &[u8], from: usize, w: &[u8]) -> usize
 fn is_geo_name(s: &[u8], at: usize) -> bool
     ensures { result ≡ is_one_of (rest 0 s.now at) geo_elements }
 {
-    let latitude = is_word(0, s, at, &element::LATITUDE);
+    let latitude = is_word::<Plain>(s, at, &element::LATITUDE);
     if latitude {
         return true;
     }
-    is_word(0, s, at, &element::LONGITUDE)
+    is_word::<Plain>(s, at, &element::LONGITUDE)
 }
 
 // The same of REQUEST-STATUS's value.
 fn is_status_name(s: &[u8], at: usize) -> bool
     ensures { result ≡ is_one_of (rest 0 s.now at) status_elements }
 {
-    let code = is_word(0, s, at, &element::CODE);
+    let code = is_word::<Plain>(s, at, &element::CODE);
     if code {
         return true;
     }
-    let description = is_word(0, s, at, &element::DESCRIPTION);
+    let description = is_word::<Plain>(s, at, &element::DESCRIPTION);
     if description {
         return true;
     }
-    is_word(0, s, at, &element::DATA)
+    is_word::<Plain>(s, at, &element::DATA)
 }
 
 // The word is the name of a child that belongs to the value of the property of the number `p`.
@@ -93,7 +94,7 @@ fn is_value_name(p: usize, s: &[u8], at: usize) -> bool
     if p == property::REQUEST_STATUS {
         return is_status_name(s, at);
     }
-    let t = find_word(true, 0, s, at, &table::TYPES);
+    let t = find_word::<Plain>(true, s, at, &table::TYPES);
     t <= value_type::UNKNOWN
 }
 

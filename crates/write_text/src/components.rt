@@ -22,6 +22,7 @@ use names::put_upper;
 use read_xml_nodes::{NodeKind, next_node};
 use schema::component;
 use sink::put_all;
+use source::Plain;
 
 // The line of `word` and the name from `name` to `end` in capitals.
 fn put_name_line(
@@ -40,7 +41,7 @@ fn put_name_line(
         (overwrite line.old 0 (word.now ⊕ upper (name_in s.now name end))) }
 {
     let a = put_all(line, 0, word);
-    let n = put_upper(line, a, 0, &s[..end], name);
+    let n = put_upper::<Plain>(line, a, &s[..end], name);
     put_folded(out, o, &line[..n])
 }
 

@@ -17,6 +17,7 @@ use read_xml_nodes::Element;
 use read_xml_parameters::put_parameters;
 use schema::{Row, row_of};
 use sink::put_all;
+use source::Plain;
 use write_text_pieces::put_value_parameter;
 use write_text_values::{put_values, type_of_values};
 
@@ -58,8 +59,8 @@ pub fn put_content_line(out: &mut [u8], o: usize, edition: Edition, s: &[u8], e:
     ensures { Put out.old out.new o result
         (line_text edition (name_at s.now e) (nodes_at s.now e.inside)) }
 {
-    let row = row_of(0, &s[..e.name_end], e.name);
-    let a = put_upper(out, o, 0, &s[..e.name_end], e.name);
+    let row = row_of::<Plain>(&s[..e.name_end], e.name);
+    let a = put_upper::<Plain>(out, o, &s[..e.name_end], e.name);
     let b = put_all_parameters(out, a, edition, row, s, e.inside);
     put_all_values(out, b, row.number, s, e.inside)
 }

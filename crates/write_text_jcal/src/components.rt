@@ -24,6 +24,7 @@ use read_json::kinds::is_there;
 use read_json::{element_at, element_next};
 use schema::component_number;
 use sink::put_all;
+use source::JsonCharacters;
 use write_text_jcal_values::{array_at, skip, string_at};
 
 // The line of `word` and the name from the cursor `c` on in capitals.
@@ -42,7 +43,7 @@ fn put_name_line(
         (overwrite line.old 0 (word.now ⊕ upper (rest 3 s.now c))) }
 {
     let a = put_all(line, 0, word);
-    let n = put_upper(line, a, 3, s, c);
+    let n = put_upper::<JsonCharacters>(line, a, s, c);
     put_folded(out, o, &line[..n])
 }
 
@@ -81,7 +82,7 @@ pub fn put_head(
         (head_room edition (elements_at s.now inside) line.old) }
 {
     let c = string_at(s, inside);
-    let k = component_number(3, s, c);
+    let k = component_number::<JsonCharacters>(s, c);
     let from = properties_inside(s, inside);
     let a = put_name_line(out, o, line, b"BEGIN:", s, c);
     put_properties(out, a, edition, line, k, s, from)

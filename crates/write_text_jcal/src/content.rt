@@ -21,6 +21,7 @@ use read_jcal_parameters::put_parameters;
 use read_jcal_value::values_read;
 use schema::Context;
 use sink::put_all;
+use source::JsonCharacters;
 use write_text_jcal_values::{object_at, put_values, skip, string_at, type_of_values};
 use write_text_pieces::put_value_parameter;
 
@@ -108,7 +109,7 @@ pub fn put_content_line(
         (line_text edition (component_name k) (elements_at s.now inside)) }
 {
     let c = string_at(s, inside);
-    let a = put_upper(out, o, 3, s, c);
+    let a = put_upper::<JsonCharacters>(out, o, s, c);
     let context = context_at(k, s, inside);
     put_line_end(out, a, edition, context, s, inside)
 }

@@ -12,6 +12,7 @@ ghost use Rattle.write_text_jcal.specs.Context.{ContextAt};
 use markup::table;
 use names::find_word;
 use schema::{Context, row_of, value_type};
+use source::JsonCharacters;
 use write_text_jcal_values::{skip, string_at};
 
 // The number of the type that the array names whose content begins at `inside`; TEXT where it names none.
@@ -21,7 +22,7 @@ fn type_at(s: &[u8], inside: usize) -> usize
 {
     let at = skip(s, inside, 2);
     let c = string_at(s, at);
-    let t = find_word(true, 3, s, c, &table::TYPES);
+    let t = find_word::<JsonCharacters>(true, s, c, &table::TYPES);
     if t <= value_type::UNKNOWN {
         return t;
     }
@@ -34,7 +35,7 @@ pub fn context_at(k: usize, s: &[u8], inside: usize) -> Context
     ensures { ContextAt k s.now inside result }
 {
     let c = string_at(s, inside);
-    let row = row_of(3, s, c);
+    let row = row_of::<JsonCharacters>(s, c);
     let t = type_at(s, inside);
     Context {
         component: k,

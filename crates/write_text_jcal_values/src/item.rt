@@ -18,6 +18,7 @@ ghost use Rattle.write_text_jcal_values.specs.laws.Elements.{Strung};
 use read_json::kinds::{is_array, is_string, is_there};
 use read_json::{Head, element_at, element_next};
 use recur::written::put_item;
+use source::{JsonCharacters, Plain};
 use write_text_pieces::put_between;
 
 // An item of the part of the number `p`: a string, or a number.
@@ -30,9 +31,9 @@ fn put_item_of(out: &mut [u8], o: usize, p: usize, s: &[u8], h: Head) -> usize
     let kind = h.kind;
     let string = is_string(kind);
     if string {
-        return put_item(out, o, p, true, false, 3, s, 2 * (h.place + 1));
+        return put_item::<JsonCharacters>(out, o, p, true, false, s, 2 * (h.place + 1));
     }
-    put_item(out, o, p, true, false, 0, &s[..h.next], h.place)
+    put_item::<Plain>(out, o, p, true, false, &s[..h.next], h.place)
 }
 
 // The same, behind a comma where it is not the first.

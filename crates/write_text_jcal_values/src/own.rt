@@ -22,6 +22,7 @@ use numbers::float::put_float;
 use read_json::kinds::is_there;
 use read_json::{Head, element_at, element_next};
 use sink::put_all;
+use source::{JsonCharacters, Plain};
 use texts::put_text_escaped;
 use write_text_pieces::put_between;
 
@@ -32,7 +33,7 @@ fn put_coordinate(out: &mut [u8], o: usize, s: &[u8], at: usize) -> usize
         Put out.old out.new o result (write_float d) }
 {
     let h = element_at(s, at);
-    put_float(out, o, 0, &s[..h.next], h.place)
+    put_float::<Plain>(out, o, &s[..h.next], h.place)
 }
 
 // The value of GEO whose array's content begins at `inside`.
@@ -55,7 +56,7 @@ fn put_one_text(out: &mut [u8], o: usize, started: bool, s: &[u8], h: Head) -> u
         Put out.old out.new o result (pick started (59 ∷ []) [] ⊕ write_text l) }
 {
     let a = put_between(out, o, started, b';');
-    put_text_escaped(out, a, 3, s, 2 * (h.place + 1))
+    put_text_escaped::<JsonCharacters>(out, a, s, 2 * (h.place + 1))
 }
 
 // All of them, from `from` on.

@@ -13,6 +13,7 @@ ghost use Rattle.write_text_jcal_values.specs.Periods.{end_text};
 
 use crate::elements::{skip, string_at};
 use sink::put_all;
+use source::JsonCharacters;
 use times::date_time::put_date_time;
 use times::duration::{put_duration, read_duration};
 
@@ -23,16 +24,16 @@ fn put_start(out: &mut [u8], o: usize, s: &[u8], inside: usize) -> usize
         (or_nothing (write_date_time ical) (read_date_time xcal (characters_in (elements_at s.now inside)))) }
 {
     let c = string_at(s, inside);
-    put_date_time(out, o, true, false, 3, s, c)
+    put_date_time::<JsonCharacters>(out, o, true, false, s, c)
 }
 
 // The duration, or the end, in the characters from the cursor `c` on.
 fn put_end(out: &mut [u8], o: usize, s: &[u8], c: usize) -> usize
     ensures { Put out.old out.new o result (end_text (rest 3 s.now c)) }
 {
-    match read_duration(true, 3, s, c) {
-        Some(_) => put_duration(out, o, true, false, 3, s, c),
-        None => put_date_time(out, o, true, false, 3, s, c),
+    match read_duration::<JsonCharacters>(true, s, c) {
+        Some(_) => put_duration::<JsonCharacters>(out, o, true, false, s, c),
+        None => put_date_time::<JsonCharacters>(out, o, true, false, s, c),
     }
 }
 

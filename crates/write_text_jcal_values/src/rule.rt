@@ -23,6 +23,7 @@ use names::{find_word, put_upper};
 use read_json::{MemberHead, member_at};
 use recur::part;
 use sink::put_all;
+use source::JsonCharacters;
 use write_text_pieces::put_between;
 
 // The string at `place` is the name of the part of the number `p`.
@@ -30,9 +31,8 @@ fn is_part(p: usize, s: &[u8], place: usize) -> bool
     requires { (p < 14) × (place < length s.now) × (length s.now ≤ 65535) }
     ensures { result ≡ same (get_or part_names p []) (upper (string_at s.now place)) }
 {
-    let n = find_word(
+    let n = find_word::<JsonCharacters>(
         false,
-        3,
         s,
         2 * (place + 1),
         b"FREQ\nUNTIL\nCOUNT\nINTERVAL\nBYSECOND\nBYMINUTE\nBYHOUR\nBYDAY\nBYMONTHDAY\nBYYEARDAY\nBYWEEKNO\nBYMONTH\nBYSETPOS\nWKST\n",
@@ -73,7 +73,7 @@ fn put_part(
         (map (write_item ical) is)) }
 {
     let a = put_between(out, o, started, b';');
-    let b = put_upper(out, a, 3, s, 2 * (name + 1));
+    let b = put_upper::<JsonCharacters>(out, a, s, 2 * (name + 1));
     let c = put_all(out, b, b"=");
     put_items(out, c, p, s, value)
 }

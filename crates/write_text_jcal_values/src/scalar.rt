@@ -15,6 +15,7 @@ use numbers::integer::put_whole;
 use read_jcal_value::read_number;
 use read_json::Head;
 use schema::value_type;
+use source::{JsonCharacters, Plain};
 use texts::put_binary;
 use write_text_pieces::put_leaf;
 
@@ -41,16 +42,16 @@ pub fn put_scalar(out: &mut [u8], o: usize, t: usize, s: &[u8], h: Head) -> usiz
         Put out.old out.new o result (write_value v) }
 {
     if t == value_type::BINARY {
-        return put_binary(out, o, false, 3, s, 2 * (h.place + 1));
+        return put_binary::<JsonCharacters>(out, o, false, s, 2 * (h.place + 1));
     }
     if t == value_type::BOOLEAN {
-        return put_leaf(out, o, t, 0, &s[..h.next], h.place);
+        return put_leaf::<Plain>(out, o, t, &s[..h.next], h.place);
     }
     if t == value_type::FLOAT {
-        return put_leaf(out, o, t, 0, &s[..h.next], h.place);
+        return put_leaf::<Plain>(out, o, t, &s[..h.next], h.place);
     }
     if t == value_type::INTEGER {
         return put_number(out, o, s, h.place, h.next);
     }
-    put_leaf(out, o, t, 3, s, 2 * (h.place + 1))
+    put_leaf::<JsonCharacters>(out, o, t, s, 2 * (h.place + 1))
 }

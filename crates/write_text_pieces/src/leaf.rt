@@ -11,6 +11,7 @@ use numbers::boolean::{put_boolean, read_boolean};
 use numbers::float::put_float;
 use numbers::integer::put_integer;
 use schema::value_type;
+use source::Encoding;
 use texts::{put_binary, put_text_escaped, put_unknown, put_uri};
 use times::date::put_date;
 use times::date_time::put_date_time;
@@ -18,40 +19,40 @@ use times::duration::put_duration;
 use times::offset::put_utc_offset;
 use times::time::put_time;
 
-fn put_boolean_text(out: &mut [u8], o: usize, mode: usize, s: &[u8], at: usize) -> usize
+fn put_boolean_text<E: Encoding>(out: &mut [u8], o: usize, s: &[u8], at: usize) -> usize
     ensures { Put out.old out.new o result
-        (value_text (read_value xcal BOOLEAN (rest mode s.now at))) }
+        (value_text (read_value xcal BOOLEAN (rest E.encoding s.now at))) }
 {
-    match read_boolean(true, mode, s, at) {
+    match read_boolean::<E>(true, s, at) {
         Some(b) => put_boolean(out, o, false, b),
         None => o,
     }
 }
 
 // A value of TIME, or of a type after it.
-fn put_from_time(out: &mut [u8], o: usize, t: usize, mode: usize, s: &[u8], at: usize) -> usize
+fn put_from_time<E: Encoding>(out: &mut [u8], o: usize, t: usize, s: &[u8], at: usize) -> usize
     ensures { Put out.old out.new o result
-        (value_text (read_value xcal (from_time t) (rest mode s.now at))) }
+        (value_text (read_value xcal (from_time t) (rest E.encoding s.now at))) }
 {
     if t == value_type::TIME {
-        return put_time(out, o, true, false, mode, s, at);
+        return put_time::<E>(out, o, true, false, s, at);
     }
     if t == value_type::URI {
-        return put_uri(out, o, mode, s, at);
+        return put_uri::<E>(out, o, s, at);
     }
     if t == value_type::UTC_OFFSET {
-        return put_utc_offset(out, o, true, false, mode, s, at);
+        return put_utc_offset::<E>(out, o, true, false, s, at);
     }
-    put_unknown(out, o, mode, s, at)
+    put_unknown::<E>(out, o, s, at)
 }
 
 // A value of INTEGER, or of a type after it. PERIOD and RECUR are made of elements, and have no character data.
-fn put_from_integer(out: &mut [u8], o: usize, t: usize, mode: usize, s: &[u8], at: usize) -> usize
+fn put_from_integer<E: Encoding>(out: &mut [u8], o: usize, t: usize, s: &[u8], at: usize) -> usize
     ensures { Put out.old out.new o result
-        (value_text (read_value xcal (from_integer t) (rest mode s.now at))) }
+        (value_text (read_value xcal (from_integer t) (rest E.encoding s.now at))) }
 {
     if t == value_type::INTEGER {
-        return put_integer(out, o, mode, s, at);
+        return put_integer::<E>(out, o, s, at);
     }
     if t == value_type::PERIOD {
         return o;
@@ -60,52 +61,52 @@ fn put_from_integer(out: &mut [u8], o: usize, t: usize, mode: usize, s: &[u8], a
         return o;
     }
     if t == value_type::TEXT {
-        return put_text_escaped(out, o, mode, s, at);
+        return put_text_escaped::<E>(out, o, s, at);
     }
-    put_from_time(out, o, t, mode, s, at)
+    put_from_time::<E>(out, o, t, s, at)
 }
 
 // A value of DATE, or of a type after it.
-fn put_from_date(out: &mut [u8], o: usize, t: usize, mode: usize, s: &[u8], at: usize) -> usize
+fn put_from_date<E: Encoding>(out: &mut [u8], o: usize, t: usize, s: &[u8], at: usize) -> usize
     ensures { Put out.old out.new o result
-        (value_text (read_value xcal (from_date t) (rest mode s.now at))) }
+        (value_text (read_value xcal (from_date t) (rest E.encoding s.now at))) }
 {
     if t == value_type::DATE {
-        return put_date(out, o, true, false, mode, s, at);
+        return put_date::<E>(out, o, true, false, s, at);
     }
     if t == value_type::DATE_TIME {
-        return put_date_time(out, o, true, false, mode, s, at);
+        return put_date_time::<E>(out, o, true, false, s, at);
     }
     if t == value_type::DURATION {
-        return put_duration(out, o, true, false, mode, s, at);
+        return put_duration::<E>(out, o, true, false, s, at);
     }
     if t == value_type::FLOAT {
-        return put_float(out, o, mode, s, at);
+        return put_float::<E>(out, o, s, at);
     }
-    put_from_integer(out, o, t, mode, s, at)
+    put_from_integer::<E>(out, o, t, s, at)
 }
 
 // A value of BINARY, or of a type after it.
-fn put_from_binary(out: &mut [u8], o: usize, t: usize, mode: usize, s: &[u8], at: usize) -> usize
+fn put_from_binary<E: Encoding>(out: &mut [u8], o: usize, t: usize, s: &[u8], at: usize) -> usize
     ensures { Put out.old out.new o result
-        (value_text (read_value xcal (from_binary t) (rest mode s.now at))) }
+        (value_text (read_value xcal (from_binary t) (rest E.encoding s.now at))) }
 {
     if t == value_type::BINARY {
-        return put_binary(out, o, true, mode, s, at);
+        return put_binary::<E>(out, o, true, s, at);
     }
     if t == value_type::BOOLEAN {
-        return put_boolean_text(out, o, mode, s, at);
+        return put_boolean_text::<E>(out, o, s, at);
     }
     if t == value_type::CAL_ADDRESS {
-        return put_uri(out, o, mode, s, at);
+        return put_uri::<E>(out, o, s, at);
     }
-    put_from_date(out, o, t, mode, s, at)
+    put_from_date::<E>(out, o, t, s, at)
 }
 
 // The value of the type of the number `t`, from the cursor to the end; nothing where it is none.
-pub fn put_leaf(out: &mut [u8], o: usize, t: usize, mode: usize, s: &[u8], at: usize) -> usize
+pub fn put_leaf<E: Encoding>(out: &mut [u8], o: usize, t: usize, s: &[u8], at: usize) -> usize
     ensures { Put out.old out.new o result
-        (value_text (read_value xcal (type_at t) (rest mode s.now at))) }
+        (value_text (read_value xcal (type_at t) (rest E.encoding s.now at))) }
 {
-    put_from_binary(out, o, t, mode, s, at)
+    put_from_binary::<E>(out, o, t, s, at)
 }

@@ -3,6 +3,7 @@ ghost use Rattle.write_text_values.specs.Children.{ChildAt, TextAt};
 
 use names::is_word;
 use read_xml_nodes::{NodeKind, node_end, node_head};
+use source::Plain;
 
 // Where the content of the first child of this name begins, in the content that begins at `inside`.
 pub fn find_child(s: &[u8], inside: usize, name: &[u8]) -> Option<usize>
@@ -14,7 +15,7 @@ pub fn find_child(s: &[u8], inside: usize, name: &[u8]) -> Option<usize>
         match n.kind {
             NodeKind::Absent => return None,
             NodeKind::Element => {
-                if is_word(0, &s[..n.name_end], n.name, name) {
+                if is_word::<Plain>(&s[..n.name_end], n.name, name) {
                     return Some(n.inside);
                 }
                 c = node_end(s, c, n.opens, n.next).next;

@@ -15,6 +15,7 @@ use crate::child::{child_inside, find_child};
 use markup::element;
 use numbers::float::{put_float, read_float};
 use sink::put_all;
+use source::XmlCharacters;
 use texts::put_text_escaped;
 
 // The FLOAT in the child of a name; 0 where there is none.
@@ -24,8 +25,8 @@ fn put_coordinate(out: &mut [u8], o: usize, s: &[u8], inside: usize, name: &[u8]
         (write_float (float_of name.now (nodes_at s.now inside))) }
 {
     let i = child_inside(s, inside, name);
-    match read_float(1, s, 2 * i) {
-        Some(_) => put_float(out, o, 1, s, 2 * i),
+    match read_float::<XmlCharacters>(s, 2 * i) {
+        Some(_) => put_float::<XmlCharacters>(out, o, s, 2 * i),
         None => put_all(out, o, b"0"),
     }
 }
@@ -46,7 +47,7 @@ fn put_child_text(out: &mut [u8], o: usize, s: &[u8], inside: usize, name: &[u8]
         (write_text (text_of name.now (nodes_at s.now inside))) }
 {
     let i = child_inside(s, inside, name);
-    put_text_escaped(out, o, 1, s, 2 * i)
+    put_text_escaped::<XmlCharacters>(out, o, s, 2 * i)
 }
 
 // The data behind its semicolon, content of a child that begins at `i`.
@@ -56,7 +57,7 @@ fn put_data_text(out: &mut [u8], o: usize, s: &[u8], i: usize) -> usize
         (ascii ";" ⊕ write_text (characters_of (nodes_at s.now i))) }
 {
     let a = put_all(out, o, b";");
-    put_text_escaped(out, a, 1, s, 2 * i)
+    put_text_escaped::<XmlCharacters>(out, a, s, 2 * i)
 }
 
 // The data, if it is there.

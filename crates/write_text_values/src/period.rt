@@ -10,6 +10,7 @@ ghost use Rattle.write_text_values.specs.Periods.{end_of};
 use crate::child::{child_inside, find_child};
 use markup::element;
 use sink::put_all;
+use source::XmlCharacters;
 use times::date_time::put_date_time;
 use times::duration::put_duration;
 
@@ -20,7 +21,7 @@ fn put_moment(out: &mut [u8], o: usize, s: &[u8], inside: usize, name: &[u8]) ->
         (moment_of name.now (nodes_at s.now inside)) }
 {
     let i = child_inside(s, inside, name);
-    put_date_time(out, o, true, false, 1, s, 2 * i)
+    put_date_time::<XmlCharacters>(out, o, true, false, s, 2 * i)
 }
 
 // The duration, or the end.
@@ -30,7 +31,7 @@ fn put_end(out: &mut [u8], o: usize, s: &[u8], inside: usize) -> usize
         (end_of (child_named (ascii "duration") (nodes_at s.now inside)) (nodes_at s.now inside)) }
 {
     match find_child(s, inside, &element::DURATION) {
-        Some(i) => put_duration(out, o, true, false, 1, s, 2 * i),
+        Some(i) => put_duration::<XmlCharacters>(out, o, true, false, s, 2 * i),
         None => put_moment(out, o, s, inside, &element::END),
     }
 }

@@ -24,6 +24,7 @@ use read_xml_nodes::{NodeKind, next_node};
 use recur::part;
 use recur::written::put_item;
 use sink::put_all;
+use source::{Plain, XmlCharacters};
 use write_text_pieces::put_between;
 
 // An item's element: its name, where its content begins, and the place of the next node.
@@ -40,7 +41,7 @@ fn part_number(s: &[u8], name: usize, name_end: usize) -> usize
     requires { name_end ≤ length s.now }
     ensures { result ≡ place_of (rest 0 (take name_end s.now) name) recur_names }
 {
-    find_word(true, 0, &s[..name_end], name, &table::PARTS)
+    find_word::<Plain>(true, &s[..name_end], name, &table::PARTS)
 }
 
 // The first item, from `at` on, of the part of the number `p`.
@@ -75,7 +76,7 @@ fn put_one_item(out: &mut [u8], o: usize, started: bool, p: usize, s: &[u8], i: 
     ensures { Put out.old out.new o result (pick started (44 ∷ []) [] ⊕ item_text p s.now i) }
 {
     let a = put_between(out, o, started, b',');
-    put_item(out, a, p, true, false, 1, s, 2 * i)
+    put_item::<XmlCharacters>(out, a, p, true, false, s, 2 * i)
 }
 
 // The items of the part of the number `p`.
@@ -112,7 +113,7 @@ fn put_part(
         (map (write_item ical) (items_of (get_or part_names p []) (nodes_at s.now inside)))) }
 {
     let a = put_between(out, o, started, b';');
-    let b = put_upper(out, a, 0, &s[..name_end], name);
+    let b = put_upper::<Plain>(out, a, &s[..name_end], name);
     let c = put_all(out, b, b"=");
     put_items(out, c, p, s, inside)
 }

@@ -15,6 +15,7 @@ use crate::rule::put_rule;
 use read_xml_nodes::{NodeKind, node_end, node_head};
 use read_xml_value::element_type;
 use schema::value_type;
+use source::XmlCharacters;
 use values::read_value;
 use write_text_pieces::{put_between, put_leaf};
 
@@ -63,7 +64,7 @@ fn put_value(out: &mut [u8], o: usize, t: usize, s: &[u8], i: usize) -> usize
     if t == value_type::RECUR {
         return put_rule(out, o, s, i);
     }
-    put_leaf(out, o, t, 1, s, 2 * i)
+    put_leaf::<XmlCharacters>(out, o, t, s, 2 * i)
 }
 
 // A value, behind a comma where it is not the first.
@@ -103,7 +104,7 @@ fn type_of_value(t: usize, s: &[u8], i: usize) -> usize
     if t == value_type::RECUR {
         return value_type::RECUR;
     }
-    match read_value(true, t, 1, s, 2 * i) {
+    match read_value::<XmlCharacters>(true, t, s, 2 * i) {
         Some(_) => t,
         None => value_type::TEXT,
     }

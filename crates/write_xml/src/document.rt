@@ -2,7 +2,7 @@
 ghost use Rattle.std.specs.Prelude.{◌≡◌, true, [], ◌∷◌};
 ghost use Rattle.octets.specs.Append.{◌⊕◌};
 ghost use Rattle.sink.specs.Sink.{Put};
-ghost use Rattle.source.specs.Source.{rest, cuts};
+ghost use Rattle.source.specs.Source.{rest};
 ghost use Rattle.folding.specs.Lines.{lines};
 ghost use Rattle.text.specs.Tree.{calendar_of};
 ghost use Rattle.xml.specs.Escape.{root_start};
@@ -14,7 +14,7 @@ use edition::Edition;
 use markup::{declaration, element, namespace};
 use schema::component;
 use sink::{put, put_all};
-use source::settled;
+use source::Cuttable;
 use tags::put_end_tag;
 
 // A value between quotation marks.
@@ -70,13 +70,12 @@ fn put_back(out: &mut [u8], o: usize) -> usize
 }
 
 // The canonical XML of the text, whatever it is.
-pub fn put_document(out: &mut [u8], o: usize, edition: Edition, mode: usize, s: &[u8]) -> usize
-    requires { cuts mode ≡ true }
+pub fn put_document<E: Cuttable>(out: &mut [u8], o: usize, edition: Edition, s: &[u8]) -> usize
     ensures { Put out.old out.new o result
-        (write_document (calendar_of edition (lines (rest mode s.now 0)))) }
+        (write_document (calendar_of edition (lines (rest E.encoding s.now 0)))) }
 {
     let a = put_front(out, o);
-    let from = settled(mode, s, 0);
-    let b = put_components(out, a, edition, mode, s, from, component::LEVELS);
+    let from = E::settled(s, 0);
+    let b = put_components::<E>(out, a, edition, s, from, component::LEVELS);
     put_back(out, b.to)
 }

@@ -18,14 +18,15 @@ use edition::Edition;
 use markup::element;
 use names::is_word_any_case;
 use schema::component_number;
+use source::{Cuttable, Encoding};
 use tags::{put_end_tag, put_small_end, put_small_start, put_start_tag};
 use text_entries::cut_at_level;
 
 // The component, which has no subcomponents if it is bare, has an element `components`.
-fn has_components(mode: usize, s: &[u8], v: usize, bare: bool) -> bool
-    ensures { result ≡ has_components (upper (rest mode s.now v)) bare }
+fn has_components<E: Encoding>(s: &[u8], v: usize, bare: bool) -> bool
+    ensures { result ≡ has_components (upper (rest E.encoding s.now v)) bare }
 {
-    let calendar = is_word_any_case(mode, s, v, b"VCALENDAR");
+    let calendar = is_word_any_case::<E>(s, v, b"VCALENDAR");
     if calendar {
         return true;
     }
@@ -55,38 +56,37 @@ fn put_components_end(out: &mut [u8], o: usize, there: bool) -> usize
 }
 
 // What stands before the subcomponents; `left`, the levels of the component and of those inside it.
-pub fn put_head(
+pub fn put_head<E: Cuttable>(
     out: &mut [u8],
     o: usize,
     edition: Edition,
-    mode: usize,
     s: &[u8],
     v: usize,
     e: usize,
     from: usize,
     left: usize,
 ) -> Walked
-    requires { (e ≤ length s.now) × Ready mode s.now from }
+    requires { (e ≤ length s.now) × Ready E.encoding s.now from }
     ensures { PropertiesPut edition (shallow (left - 1)) out.old out.new o
-        (head_xml (upper (rest mode (take e s.now) v)) result.ahead.bare
-        (entries_at edition mode s.now from))
-        mode s.now from result }
+        (head_xml (upper (rest E.encoding (take e s.now) v)) result.ahead.bare
+        (entries_at edition E.encoding s.now from))
+        E.encoding s.now from result }
 {
-    let k = component_number(mode, &s[..e], v);
-    let a = put_small_start(out, o, mode, &s[..e], v);
-    let all = put_properties_element(out, a, edition, k, mode, s, from);
+    let k = component_number::<E>(&s[..e], v);
+    let a = put_small_start::<E>(out, o, &s[..e], v);
+    let all = put_properties_element::<E>(out, a, edition, k, s, from);
     let whole = all.ahead;
-    let b = cut_at_level(edition, mode, s, whole, left);
-    let there = has_components(mode, &s[..e], v, b.bare);
+    let b = cut_at_level::<E>(edition, s, whole, left);
+    let there = has_components::<E>(&s[..e], v, b.bare);
     let c = put_components_start(out, all.to, there);
     Walked { to: c, ahead: b }
 }
 
 // What stands behind them.
-pub fn put_tail(out: &mut [u8], o: usize, mode: usize, s: &[u8], v: usize, bare: bool) -> usize
-    ensures { Put out.old out.new o result (tail_xml (upper (rest mode s.now v)) bare) }
+pub fn put_tail<E: Encoding>(out: &mut [u8], o: usize, s: &[u8], v: usize, bare: bool) -> usize
+    ensures { Put out.old out.new o result (tail_xml (upper (rest E.encoding s.now v)) bare) }
 {
-    let there = has_components(mode, s, v, bare);
+    let there = has_components::<E>(s, v, bare);
     let a = put_components_end(out, o, there);
-    put_small_end(out, a, mode, s, v)
+    put_small_end::<E>(out, a, s, v)
 }

@@ -11,6 +11,7 @@ ghost use Rattle.write_xml.specs.Places.{PropertiesPut, LeadingPut};
 
 use edition::Edition;
 use markup::element;
+use source::Cuttable;
 use tags::{put_end_tag, put_start_tag};
 use text_entries::{Ahead, Kind, entry_at, pass_component};
 use write_xml_property::put_property;
@@ -23,22 +24,21 @@ pub struct Walked {
 }
 
 // The properties of the component of the number `k` whose lines begin at `from`, up to its first subcomponent.
-fn put_leading(
+fn put_leading<E: Cuttable>(
     out: &mut [u8],
     o: usize,
     edition: Edition,
     k: usize,
-    mode: usize,
     s: &[u8],
     from: usize,
 ) -> Walked
-    requires { Ready mode s.now from }
-    ensures { LeadingPut edition out.old out.new o k mode s.now from result }
+    requires { Ready E.encoding s.now from }
+    ensures { LeadingPut edition out.old out.new o k E.encoding s.now from result }
 {
     let mut p = o;
     let mut at = from;
     while at < s.len() {
-        let f = entry_at(edition, mode, s, at);
+        let f = entry_at::<E>(edition, s, at);
         match f.kind {
             Kind::Begin => {
                 let ahead = Ahead {
@@ -58,7 +58,7 @@ fn put_leading(
             }
             Kind::Property => {
                 let l = f.line;
-                p = put_property(out, p, edition, k, mode, &s[..f.end], l);
+                p = put_property::<E>(out, p, edition, k, &s[..f.end], l);
                 at = f.next;
             }
             Kind::Nothing => {
@@ -75,33 +75,32 @@ fn put_leading(
 }
 
 // Those from `from` on, between and behind its subcomponents too.
-fn put_following(
+fn put_following<E: Cuttable>(
     out: &mut [u8],
     o: usize,
     edition: Edition,
     k: usize,
-    mode: usize,
     s: &[u8],
     from: usize,
 ) -> usize
-    requires { Ready mode s.now from }
+    requires { Ready E.encoding s.now from }
     ensures { Put out.old out.new o result
-        (own_xml (component_name k) (entries_at edition mode s.now from)) }
+        (own_xml (component_name k) (entries_at edition E.encoding s.now from)) }
 {
     let mut p = o;
     let mut at = from;
     while at < s.len() {
-        let f = entry_at(edition, mode, s, at);
+        let f = entry_at::<E>(edition, s, at);
         match f.kind {
             Kind::Begin => {
-                at = pass_component(edition, mode, s, f.next);
+                at = pass_component::<E>(edition, s, f.next);
             }
             Kind::End => {
                 return p;
             }
             Kind::Property => {
                 let l = f.line;
-                p = put_property(out, p, edition, k, mode, &s[..f.end], l);
+                p = put_property::<E>(out, p, edition, k, &s[..f.end], l);
                 at = f.next;
             }
             Kind::Nothing => {
@@ -113,45 +112,43 @@ fn put_following(
 }
 
 // All of them: those before the first subcomponent, and the rest where there is one.
-fn put_properties(
+fn put_properties<E: Cuttable>(
     out: &mut [u8],
     o: usize,
     edition: Edition,
     k: usize,
-    mode: usize,
     s: &[u8],
     from: usize,
 ) -> Walked
-    requires { Ready mode s.now from }
+    requires { Ready E.encoding s.now from }
     ensures { PropertiesPut edition whole out.old out.new o
-        (own_xml (component_name k) (entries_at edition mode s.now from)) mode s.now from result }
+        (own_xml (component_name k) (entries_at edition E.encoding s.now from)) E.encoding s.now from result }
 {
-    let a = put_leading(out, o, edition, k, mode, s, from);
+    let a = put_leading::<E>(out, o, edition, k, s, from);
     let ahead = a.ahead;
     if ahead.bare {
         return a;
     }
-    let b = put_following(out, a.to, edition, k, mode, s, ahead.inner);
+    let b = put_following::<E>(out, a.to, edition, k, s, ahead.inner);
     Walked { to: b, ahead }
 }
 
 // The same, as the element `properties`.
-pub fn put_properties_element(
+pub fn put_properties_element<E: Cuttable>(
     out: &mut [u8],
     o: usize,
     edition: Edition,
     k: usize,
-    mode: usize,
     s: &[u8],
     from: usize,
 ) -> Walked
-    requires { Ready mode s.now from }
+    requires { Ready E.encoding s.now from }
     ensures { PropertiesPut edition whole out.old out.new o
-        (element_of (ascii "properties") (own_xml (component_name k) (entries_at edition mode s.now from))) mode
+        (element_of (ascii "properties") (own_xml (component_name k) (entries_at edition E.encoding s.now from))) E.encoding
         s.now from result }
 {
     let a = put_start_tag(out, o, &element::PROPERTIES);
-    let b = put_properties(out, a, edition, k, mode, s, from);
+    let b = put_properties::<E>(out, a, edition, k, s, from);
     let c = put_end_tag(out, b.to, &element::PROPERTIES);
     let ahead = b.ahead;
     Walked { to: c, ahead }

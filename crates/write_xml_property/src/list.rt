@@ -4,7 +4,7 @@ ghost use Rattle.octets.specs.Words.{cut_at};
 ghost use Rattle.octets.specs.Reading.{or_nothing};
 ghost use Rattle.calendar.specs.Calendar.{ical};
 ghost use Rattle.sink.specs.Sink.{Put};
-ghost use Rattle.source.specs.Source.{rest, cuts, Within};
+ghost use Rattle.source.specs.Source.{rest, Within};
 ghost use Rattle.schema.specs.Numbers.{type_at};
 ghost use Rattle.values.specs.ReadValue.{read_value};
 ghost use Rattle.xcal.specs.WriteXml.{value_xml};
@@ -13,39 +13,38 @@ ghost use Rattle.write_xml_property.specs.Pieces.{pieces_xml, listed_xml};
 use octets::unit::{COMMA, END};
 use recur::rule::byte_end;
 use schema::value_type;
-use source::unit;
+use source::{Cuttable, unit};
 use texts::put_texts_xml;
 use write_xml_value::put_value_element;
 
 // The value of the type `t` from the cursor `at` to the cursor `e`.
-fn put_piece(
+fn put_piece<E: Cuttable>(
     out: &mut [u8],
     o: usize,
     t: usize,
-    mode: usize,
     s: &[u8],
     at: usize,
     e: usize,
 ) -> usize
-    requires { (cuts mode ≡ true) × (e ≤ length s.now) }
+    requires { e ≤ length s.now }
     ensures { Put out.old out.new o result
-        (or_nothing value_xml (read_value ical (type_at t) (rest mode (take e s.now) at))) }
+        (or_nothing value_xml (read_value ical (type_at t) (rest E.encoding (take e s.now) at))) }
 {
-    put_value_element(out, o, t, mode, &s[..e], at)
+    put_value_element::<E>(out, o, t, &s[..e], at)
 }
 
 // Each of the values between commas.
-fn put_pieces(out: &mut [u8], at: usize, t: usize, mode: usize, s: &[u8], from: usize) -> usize
-    requires { Within mode s.now from }
+fn put_pieces<E: Cuttable>(out: &mut [u8], at: usize, t: usize, s: &[u8], from: usize) -> usize
+    requires { Within E.encoding s.now from }
     ensures { Put out.old out.new at result
-        (pieces_xml (type_at t) (cut_at 44 (rest mode s.now from))) }
+        (pieces_xml (type_at t) (cut_at 44 (rest E.encoding s.now from))) }
 {
     let mut o = at;
     let mut c = from;
     loop {
-        let e = byte_end(COMMA, mode, s, c);
-        o = put_piece(out, o, t, mode, s, c, e);
-        let n = unit(mode, s, e);
+        let e = byte_end::<E>(COMMA, s, c);
+        o = put_piece::<E>(out, o, t, s, c, e);
+        let n = unit::<E>(s, e);
         let u = n.u;
         if u == END {
             return o;
@@ -55,15 +54,14 @@ fn put_pieces(out: &mut [u8], at: usize, t: usize, mode: usize, s: &[u8], from: 
 }
 
 // A list of values of the type `t`; where it is one of TEXT and against the grammar, nothing.
-pub fn put_list(out: &mut [u8], o: usize, t: usize, mode: usize, s: &[u8], at: usize) -> usize
-    requires { cuts mode ≡ true }
-    ensures { Put out.old out.new o result (listed_xml t (rest mode s.now at)) }
+pub fn put_list<E: Cuttable>(out: &mut [u8], o: usize, t: usize, s: &[u8], at: usize) -> usize
+    ensures { Put out.old out.new o result (listed_xml t (rest E.encoding s.now at)) }
 {
     if t == value_type::TEXT {
-        return put_texts_xml(out, o, mode, s, at);
+        return put_texts_xml::<E>(out, o, s, at);
     }
     if s.len() < at {
-        return put_pieces(out, o, t, mode, s, s.len());
+        return put_pieces::<E>(out, o, t, s, s.len());
     }
-    put_pieces(out, o, t, mode, s, at)
+    put_pieces::<E>(out, o, t, s, at)
 }

@@ -11,66 +11,65 @@ ghost use Rattle.xcal.specs.WriteXml.{value_xml};
 ghost use Rattle.write_xml_value.specs.PutPeriod.{start_element, end_element, period_xml};
 
 use markup::element;
+use source::Encoding;
 use tags::{put_end_tag, put_start_tag};
 use times::period::{put_period_end, put_period_start, read_period};
 
-fn put_start_element(out: &mut [u8], o: usize, mode: usize, s: &[u8], at: usize) -> usize
-    ensures { Put out.old out.new o result (start_element (rest mode s.now at)) }
+fn put_start_element<E: Encoding>(out: &mut [u8], o: usize, s: &[u8], at: usize) -> usize
+    ensures { Put out.old out.new o result (start_element (rest E.encoding s.now at)) }
 {
     let p = put_start_tag(out, o, &element::START);
-    let q = put_period_start(out, p, mode, s, at);
+    let q = put_period_start::<E>(out, p, s, at);
     put_end_tag(out, q, &element::START)
 }
 
 // What follows the start, as the element `name`.
-fn put_end_named(out: &mut [u8], o: usize, name: &[u8], mode: usize, s: &[u8], at: usize) -> usize
+fn put_end_named<E: Encoding>(out: &mut [u8], o: usize, name: &[u8], s: &[u8], at: usize) -> usize
     ensures { Put out.old out.new o result
-        (element_of name.now (or_nothing end_xml (read_period (rest mode s.now at)))) }
+        (element_of name.now (or_nothing end_xml (read_period (rest E.encoding s.now at)))) }
 {
     let p = put_start_tag(out, o, name);
-    let q = put_period_end(out, p, mode, s, at);
+    let q = put_period_end::<E>(out, p, s, at);
     put_end_tag(out, q, name)
 }
 
-fn put_end_element(
+fn put_end_element<E: Encoding>(
     out: &mut [u8],
     o: usize,
     explicit: bool,
-    mode: usize,
     s: &[u8],
     at: usize,
 ) -> usize
-    ensures { Put out.old out.new o result (end_element explicit (rest mode s.now at)) }
+    ensures { Put out.old out.new o result (end_element explicit (rest E.encoding s.now at)) }
 {
     if explicit {
-        return put_end_named(out, o, &element::END, mode, s, at);
+        return put_end_named::<E>(out, o, &element::END, s, at);
     }
-    put_end_named(out, o, &element::DURATION, mode, s, at)
+    put_end_named::<E>(out, o, &element::DURATION, s, at)
 }
 
-fn put_period_xml(
+fn put_period_xml<E: Encoding>(
     out: &mut [u8],
     o: usize,
     explicit: bool,
-    mode: usize,
     s: &[u8],
     at: usize,
 ) -> usize
-    ensures { Put out.old out.new o result (period_xml explicit (rest mode s.now at)) }
+    ensures { Put out.old out.new o result (period_xml explicit (rest E.encoding s.now at)) }
 {
     let a = put_start_tag(out, o, &element::PERIOD);
-    let b = put_start_element(out, a, mode, s, at);
-    let c = put_end_element(out, b, explicit, mode, s, at);
+    let b = put_start_element::<E>(out, a, s, at);
+    let c = put_end_element::<E>(out, b, explicit, s, at);
     put_end_tag(out, c, &element::PERIOD)
 }
 
 // The period from the cursor `at` to the end; nothing where it is none.
-pub fn put_period_element(out: &mut [u8], o: usize, mode: usize, s: &[u8], at: usize) -> usize
+pub fn put_period_element<E: Encoding>(out: &mut [u8], o: usize, s: &[u8], at: usize) -> usize
     ensures { Put out.old out.new o result
-        (or_nothing value_xml (read_value ical PERIOD (rest mode s.now at))) }
+        (or_nothing value_xml (read_value ical PERIOD (rest E.encoding s.now at))) }
 {
-    match read_period(mode, s, at) {
-        Some(period) => put_period_xml(out, o, period.explicit, mode, s, at),
+    match read_period::<E>(s, at) {
+        Some(period) => put_period_xml::<E>(out, o, period.explicit, s, at),
         None => o,
     }
 }

@@ -11,34 +11,34 @@ use markup::element;
 use octets::unit::END;
 use octets::upper_unit;
 use schema::value_type;
-use source::unit;
+use source::{Encoding, unit};
 use tags::{put_end_tag, put_escaped, put_escaped_byte, put_start_tag};
 
 // What stands from the cursor `at` to the end.
-pub fn put_raw_element(out: &mut [u8], o: usize, mode: usize, s: &[u8], at: usize) -> usize
-    ensures { Put out.old out.new o result (value_xml (text (rest mode s.now at))) }
+pub fn put_raw_element<E: Encoding>(out: &mut [u8], o: usize, s: &[u8], at: usize) -> usize
+    ensures { Put out.old out.new o result (value_xml (text (rest E.encoding s.now at))) }
 {
     let p = put_start_tag(out, o, &element::TEXT);
-    let q = put_escaped(out, p, mode, s, at);
+    let q = put_escaped::<E>(out, p, s, at);
     put_end_tag(out, q, &element::TEXT)
 }
 
 // The same, of no known type.
-pub fn put_unknown_element(out: &mut [u8], o: usize, mode: usize, s: &[u8], at: usize) -> usize
-    ensures { Put out.old out.new o result (value_xml (unknown (rest mode s.now at))) }
+pub fn put_unknown_element<E: Encoding>(out: &mut [u8], o: usize, s: &[u8], at: usize) -> usize
+    ensures { Put out.old out.new o result (value_xml (unknown (rest E.encoding s.now at))) }
 {
     let p = put_type_start(out, o, value_type::UNKNOWN);
-    let q = put_escaped(out, p, mode, s, at);
+    let q = put_escaped::<E>(out, p, s, at);
     put_type_end(out, q, value_type::UNKNOWN)
 }
 
-fn put_capitals(out: &mut [u8], o: usize, mode: usize, s: &[u8], at: usize) -> usize
-    ensures { Put out.old out.new o result (escaped (upper (rest mode s.now at))) }
+fn put_capitals<E: Encoding>(out: &mut [u8], o: usize, s: &[u8], at: usize) -> usize
+    ensures { Put out.old out.new o result (escaped (upper (rest E.encoding s.now at))) }
 {
     let mut p = o;
     let mut c = at;
     loop {
-        let t = unit(mode, s, c);
+        let t = unit::<E>(s, c);
         let u = t.u;
         if u == END {
             return p;
@@ -50,10 +50,10 @@ fn put_capitals(out: &mut [u8], o: usize, mode: usize, s: &[u8], at: usize) -> u
 }
 
 // The same in capitals.
-pub fn put_word_element(out: &mut [u8], o: usize, mode: usize, s: &[u8], at: usize) -> usize
-    ensures { Put out.old out.new o result (value_xml (text (upper (rest mode s.now at)))) }
+pub fn put_word_element<E: Encoding>(out: &mut [u8], o: usize, s: &[u8], at: usize) -> usize
+    ensures { Put out.old out.new o result (value_xml (text (upper (rest E.encoding s.now at)))) }
 {
     let p = put_start_tag(out, o, &element::TEXT);
-    let q = put_capitals(out, p, mode, s, at);
+    let q = put_capitals::<E>(out, p, s, at);
     put_end_tag(out, q, &element::TEXT)
 }

@@ -7,7 +7,7 @@ use borrow.Author.Rules.{rules}
 use Rattle.characters.proofs.count_from.Given as goal
 
 abbrev pub invariant-loop-x : goal.invariant-loop-x
-invariant-loop-x l = Counting l.mode l.s l.from l.n l.c
+invariant-loop-x g l = Counting g.E.Encoding.encoding l.s l.from l.n l.c
 
 abbrev pub decreases-loop-x : goal.decreases-loop-x
-decreases-loop-x l = 4 * length l.s - l.c
+decreases-loop-x g l = 4 * length l.s - l.c

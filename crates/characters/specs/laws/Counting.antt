@@ -4,7 +4,7 @@ use Rattle.std.specs.Prelude.{◌≡◌, refl, List, ℕ, ◌+◌, ◌-◌, ◌*
 use Rattle.std.proofs.Common.{sym, ap, ◌∙◌, arith}
 use Rattle.source.specs.Source.{rest, Reads}
 use Rattle.source.specs.laws.Facts.{rest_byte, rest_end, byte_small}
-use Rattle.source.specs.declared.Step.{Step}
+use Rattle.source.specs.declared.points.Unit.{Unit}
 
 pub record Counting (m : ℕ) (s : List ℕ) (from n c : ℕ) : Type 0 where
   pub left : length (rest m s from) ≡ n + length (rest m s c)
@@ -13,7 +13,7 @@ pub record Counting (m : ℕ) (s : List ℕ) (from n c : ℕ) : Type 0 where
 pub counting_start : (m : ℕ) (s : List ℕ) (from : ℕ) → Counting m s from 0 from
 counting_start m s from = record { left = omega arith; count = omega arith }
 
-module _ {m : ℕ} {s : List ℕ} {from n c : ℕ} {x : Step} (j : Counting m s from n c) (p : Reads m s c x) where
+module _ {m : ℕ} {s : List ℕ} {from n c : ℕ} {x : Unit} (j : Counting m s from n c) (p : Reads m s c x) where
   pub counting_on : (x.u ≡ 256 → ⊥) → c < x.next
   counting_on h = let u = byte_small p h in omega (arith, p.moved)
 

@@ -6,7 +6,7 @@ use Rattle.std.proofs.Math.Path.{ap}
 use Rattle.octets.specs.Scan.{foldi}
 use Rattle.source.specs.Source.{rest, Reads}
 use Rattle.source.specs.laws.Facts.{rest_byte, rest_end, byte_small, rest_plain}
-use Rattle.source.specs.declared.Step.{Step}
+use Rattle.source.specs.declared.points.Unit.{Unit}
 use Rattle.utf8.specs.Utf8.{first_bad}
 use Rattle.utf8.specs.Automaton.{start, step, verdict}
 use Rattle.utf8.specs.laws.Automaton.{finds}
@@ -19,7 +19,7 @@ pub record Judging (m : ℕ) (s : List ℕ) (st : Reading) (i c : ℕ) : Type 0 
 pub judging_start : {st : Reading} (m : ℕ) (s : List ℕ) → st ≡ start → Judging m s st 0 0
 judging_start m s e = record { left = rw e; count = omega arith }
 
-module _ {m : ℕ} {s : List ℕ} {st : Reading} {i c : ℕ} {x : Step} (j : Judging m s st i c) (p : Reads m s c x) where
+module _ {m : ℕ} {s : List ℕ} {st : Reading} {i c : ℕ} {x : Unit} (j : Judging m s st i c) (p : Reads m s c x) where
   pub judging_on : x.u < 256 → c < x.next
   judging_on l = omega (arith, p.moved)
 

@@ -13,7 +13,7 @@ use Rattle.octets.specs.Words.{same}
 use Rattle.octets.specs.laws.Words.{same_true}
 use Rattle.source.specs.Source.{rest, spell, Reads}
 use Rattle.source.specs.laws.Facts.{byte_small}
-use Rattle.source.specs.declared.Step.{Step}
+use Rattle.source.specs.declared.points.Unit.{Unit}
 use Rattle.distinct.specs.Order.{order}
 
 pub order_self : (s : List ℕ) → order s s ≡ 0
@@ -103,7 +103,7 @@ order-spell u v r q h k = go (eqb u 256) refl (eqb v 256) refl
         rw (lt-ltb (upper_byte u) (upper_byte v) (omega arith))
     go false e false f = refl
 
-module _ {m : ℕ} {s t : List ℕ} {c d : ℕ} {x y : Step} (p : Reads m s c x) (q : Reads m t d y) {a b : ℕ} (e : a ≡ upper_byte x.u) (f : b ≡ upper_byte y.u) where
+module _ {m : ℕ} {s t : List ℕ} {c d : ℕ} {x y : Unit} (p : Reads m s c x) (q : Reads m t d y) {a b : ℕ} (e : a ≡ upper_byte x.u) (f : b ≡ upper_byte y.u) where
   by_units : order (upper (rest m s c)) (upper (rest m t d)) ≡ pick (ltb a b) 1 (pick (ltb b a) 2 (pick (eqb x.u 256) 0 (order (upper (rest m s x.next)) (upper (rest m t y.next)))))
   by_units = rw (e, f, p.is, q.is) (order-spell x.u y.u (rest m s x.next) (rest m t y.next) p.small q.small)
 
@@ -123,5 +123,5 @@ module _ {m : ℕ} {s t : List ℕ} {c d : ℕ} {x y : Step} (p : Reads m s c x)
   unfolding pick
   order_on l m h = by_units ∙ rw (le-ltb a b l, le-ltb b a m, ne_eqb x.u 256 h)
 
-pub order_nearer : {m : ℕ} {s : List ℕ} {c : ℕ} {x : Step} → Reads m s c x → (x.u ≡ 256 → ⊥) → 4 * length s - x.next < 4 * length s - c
+pub order_nearer : {m : ℕ} {s : List ℕ} {c : ℕ} {x : Unit} → Reads m s c x → (x.u ≡ 256 → ⊥) → 4 * length s - x.next < 4 * length s - c
 order_nearer p h = let u = byte_small p h in omega arith

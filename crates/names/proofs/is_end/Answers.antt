@@ -4,4 +4,4 @@ use Rattle.names.specs.laws.Case.{empty_unit}
 use Rattle.names.proofs.is_end.Goals as goal
 
 pub returns-in-Some : goal.returns-in-Some
-returns-in-Some c = rw (c.in-Some.is, c.unit.ensures.is) (sym (empty_unit _ _))
+returns-in-Some g c = rw (c.in-Some.is, c.unit.ensures.is) (sym (empty_unit _ _))

@@ -6,7 +6,7 @@ use Rattle.names.specs.laws.Runs.{Running}
 use Rattle.names.proofs.name_end.Given as goal
 
 abbrev pub invariant-loop-n : goal.invariant-loop-n
-invariant-loop-n l = Running is_name_char l.mode l.s l.at l.c
+invariant-loop-n g l = Running is_name_char g.E.Encoding.encoding l.s l.at l.c
 
 abbrev pub decreases-loop-n : goal.decreases-loop-n
-decreases-loop-n l = 4 * length l.s - l.c
+decreases-loop-n g l = 4 * length l.s - l.c

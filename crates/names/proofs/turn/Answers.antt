@@ -3,10 +3,10 @@ use Rattle.names.specs.laws.Matching.{turning, turn_other, turn_same}
 use Rattle.names.proofs.turn.Goals as goal
 
 pub returns-in_err-word : goal.returns-in_err-word
-returns-in_err-word c = search turning
+returns-in_err-word g c = search turning
 
 pub returns-then-cased_unit-wide : goal.returns-then-cased_unit-wide
-returns-then-cased_unit-wide c = turn_same c.in_ok-word.was c.unit-n.ensures c.cased_unit.ensures c.wide.ensures c.if-cased_unit-wide.true
+returns-then-cased_unit-wide g c = turn_same c.in_ok-word.was c.unit-n.ensures c.cased_unit.ensures c.wide.ensures c.if-cased_unit-wide.true
 
 pub returns : goal.returns
-returns c = turn_other c.in_ok-word.was c.unit-n.ensures c.cased_unit.ensures c.wide.ensures c.if-cased_unit-wide.false
+returns g c = turn_other c.in_ok-word.was c.unit-n.ensures c.cased_unit.ensures c.wide.ensures c.if-cased_unit-wide.false

@@ -9,7 +9,7 @@ use borrow.Author.Tests.{eq-eqb, ne_eqb}
 use Rattle.octets.specs.Pick.{pick, ◌and◌}
 use Rattle.octets.specs.laws.Scan.{drop_next}
 use Rattle.source.specs.Source.{rest, spell, Reads}
-use Rattle.source.specs.declared.Step.{Step}
+use Rattle.source.specs.declared.points.Unit.{Unit}
 use Rattle.names.specs.Case.{cased, cased_byte}
 use Rattle.names.specs.laws.Case.{same_step, same_empty}
 use Rattle.names.specs.Table.{place_of, names_in, in_first}
@@ -47,7 +47,7 @@ module _ {k : Case} {mode : ℕ} {s : List ℕ} {t : ℕ} where
   pub turn_missed : {c : Option ℕ} → c ≡ None → Turned k mode s c t None
   turn_missed e = record { is = λ w l. rw e (sought_missed w l t) }
 
-  module _ {c : Option ℕ} {at : ℕ} {n : Step} {v t' : ℕ} (e : c ≡ Some at) (p : Reads mode s at n) (q : v ≡ cased_byte k n.u) (f : (t' ≡ t) × (t' < 256)) where
+  module _ {c : Option ℕ} {at : ℕ} {n : Unit} {v t' : ℕ} (e : c ≡ Some at) (p : Reads mode s at n) (q : v ≡ cased_byte k n.u) (f : (t' ≡ t) × (t' < 256)) where
     pub turn_other : (v ≡ t' → ⊥) → Turned k mode s c t None
     unfolding pick
     turn_other h = record { is = λ w l. rw (e, p.is) (sought_unit w k n.u (rest mode s n.next) l t false (omega arith) (ne_eqb (cased_byte k n.u) t (λ g. h (q ∙ g ∙ sym f.0)))) }

@@ -20,7 +20,7 @@ use Rattle.octets.specs.Lists.{every}
 use Rattle.octets.specs.laws.Lists.{every_both, word_passes}
 use Rattle.source.specs.Source.{rest, Reads}
 use Rattle.source.specs.laws.Facts.{rest_byte, rest_end, plain_byte}
-use Rattle.source.specs.declared.Step.{Step}
+use Rattle.source.specs.declared.points.Unit.{Unit}
 use Rattle.names.specs.laws.Case.{cased_none, cased_more}
 use Rattle.names.specs.laws.Plain.{cased_over}
 use Rattle.names.specs.laws.Table.{one_of_place, place_within}
@@ -202,7 +202,7 @@ pub record Taking (m : ℕ) (s : List ℕ) (c₀ h l c : ℕ) : Type 0 where
 pub taking_start : (m : ℕ) (s : List ℕ) (c : ℕ) → Taking m s c 0 1 c
 taking_start m s c = record { high = refl; low = refl }
 
-module _ {m : ℕ} {s : List ℕ} {c₀ h l c : ℕ} {n : Step} (t : Taking m s c₀ h l c) (q : Reads m s c n) where
+module _ {m : ℕ} {s : List ℕ} {c₀ h l c : ℕ} {n : Unit} (t : Taking m s c₀ h l c) (q : Reads m s c n) where
   pub taking_more : {v x y : ℕ} → (n.u ≡ 256 → ⊥) → v ≡ upper_byte n.u → (x ≡ grow_high h l v) × (y ≡ grow_low h l v) → Taking m s c₀ x y n.next
   unfolding high_from low_from
   taking_more e f g = record {

@@ -20,7 +20,7 @@ use Rattle.sink.specs.Sink.{Put, Todo}
 use Rattle.sink.specs.laws.Sink.{todo_all, todo_step, todo_done, put_length}
 use Rattle.source.specs.Source.{rest, spell, cuts, Reach, Reads}
 use Rattle.source.specs.laws.Facts.{rest_byte, rest_end, byte_small, cut_is, reach_here, reach_on}
-use Rattle.source.specs.declared.Step.{Step}
+use Rattle.source.specs.declared.points.Unit.{Unit}
 use Rattle.names.specs.Case.{cased, cased_byte}
 use Rattle.names.specs.laws.Case.{cased_none, cased_more, same_step, same_empty}
 use Rattle.names.specs.Runs.{RunEnds}
@@ -60,7 +60,7 @@ run_ends {p} {m} {s} {c₀} {c} t h =
       reach = t.reach;
     }
 
-module _ {p : ℕ → Bool} {m : ℕ} {s : List ℕ} {c₀ c : ℕ} {n : Step} (t : Running p m s c₀ c) (q : Reads m s c n) where
+module _ {p : ℕ → Bool} {m : ℕ} {s : List ℕ} {c₀ c : ℕ} {n : Unit} (t : Running p m s c₀ c) (q : Reads m s c n) where
   pub run_more : p 256 ≡ false → p n.u ≡ true → Running p m s c₀ n.next
   unfolding after_run span_len pick
   run_more z h =
@@ -102,7 +102,7 @@ pub comparing_start : (k : Case) (m : ℕ) (s : List ℕ) (c : ℕ) (w : List �
 comparing_start k m s c w = record { inside = omega arith; left = refl }
 
 module _ {k : Case} {m : ℕ} {s : List ℕ} {c₀ : ℕ} {w : List ℕ} {c i : ℕ} (q : Comparing k m s c₀ w c i) where
-  module _ {n : Step} {v t : ℕ} (h : i < length w) (p : Reads m s c n) (e : v ≡ cased_byte k n.u) (f : (t ≡ get_or w i 0) × (t < 256)) where
+  module _ {n : Unit} {v t : ℕ} (h : i < length w) (p : Reads m s c n) (e : v ≡ cased_byte k n.u) (f : (t ≡ get_or w i 0) × (t < 256)) where
     step : same (cased k (rest m s c₀)) w ≡ (eqb v t and same (cased k (rest m s n.next)) (drop (i + 1) w))
     step = q.left ∙ rw (drop_next w i h, ← f.0, p.is, e) (same_step k n.u (rest m s n.next) t (drop (i + 1) w) f.1)
 
@@ -126,7 +126,7 @@ pub record Copying (k : Case) (m : ℕ) (s : List ℕ) (c₀ : ℕ) (d₀ : List
 pub copying_start : (k : Case) (m : ℕ) (s : List ℕ) (c : ℕ) (d : List ℕ) (at : ℕ) → length d * 1 < 2 ^ 63 → Copying k m s c d at d at c
 copying_start k m s c d at h = record { todo = todo_all d at (cased k (rest m s c)) h; kept = refl }
 
-module _ {k : Case} {m : ℕ} {s : List ℕ} {c₀ : ℕ} {d₀ : List ℕ} {at₀ : ℕ} {d : List ℕ} {at c : ℕ} {n : Step} (t : Copying k m s c₀ d₀ at₀ d at c) (p : Reads m s c n) where
+module _ {k : Case} {m : ℕ} {s : List ℕ} {c₀ : ℕ} {d₀ : List ℕ} {at₀ : ℕ} {d : List ℕ} {at c : ℕ} {n : Unit} (t : Copying k m s c₀ d₀ at₀ d at c) (p : Reads m s c n) where
   pub copying_more : {e : List ℕ} {r v : ℕ} → (n.u ≡ 256 → ⊥) → v ≡ cased_byte k n.u → Put d e at r (v ∷ []) → Copying k m s c₀ d₀ at₀ e r n.next
   copying_more h e q = record {
     todo = todo_step t.todo q (rw (rest_byte p h, cased_more k n.u (rest m s n.next), e));

@@ -15,7 +15,7 @@ use Rattle.octets.specs.laws.Decimal.{value_grows}
 use Rattle.octets.specs.Reading.{provided}
 use Rattle.source.specs.Source.{rest, spell, Reads}
 use Rattle.source.specs.laws.Facts.{spell_byte, spell_end}
-use Rattle.source.specs.declared.Step.{Step}
+use Rattle.source.specs.declared.points.Unit.{Unit}
 use Rattle.numbers.specs.Numeral.{front, Fronts, worth_to}
 
 -- ---- a step
@@ -36,7 +36,7 @@ up_letter u r h = go (eqb u 256)
     go true = refl
     go false = rw h
 
-module _ {l : Bool} {m : ℕ} {s : List ℕ} {c : ℕ} {r : Step} (p : Reads m s c r) where
+module _ {l : Bool} {m : ℕ} {s : List ℕ} {c : ℕ} {r : Unit} (p : Reads m s c r) where
   pub front_all : l ≡ false → Fronts l m s c r
   front_all e = rw e (record { is = p.is; small = p.small; moved = p.moved; inside = p.inside })
 
@@ -47,7 +47,7 @@ module _ {l : Bool} {m : ℕ} {s : List ℕ} {c : ℕ} {r : Step} (p : Reads m s
   unfolding spell pick
   front_letter e h b = rw e (record { is = rw p.is (up_letter r.u (rest m s r.next) h); small = omega arith; moved = omega arith; inside = omega arith })
 
-module _ {l : Bool} {m : ℕ} {s : List ℕ} {c : ℕ} {r : Step} (p : Fronts l m s c r) where
+module _ {l : Bool} {m : ℕ} {s : List ℕ} {c : ℕ} {r : Unit} (p : Fronts l m s c r) where
   pub fronts_byte : (r.u ≡ 256 → ⊥) → front l (rest m s c) ≡ r.u ∷ front l (rest m s r.next)
   fronts_byte h = p.is ∙ spell_byte r.u (front l (rest m s r.next)) h
 

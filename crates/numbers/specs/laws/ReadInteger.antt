@@ -6,7 +6,7 @@ use Rattle.octets.specs.Pick.{pick, ◌and◌, ◌or◌}
 use Rattle.octets.specs.Decimal.{value, is_number}
 use Rattle.octets.specs.Reading.{provided}
 use Rattle.source.specs.Source.{rest, spell, Reads}
-use Rattle.source.specs.declared.Step.{Step}
+use Rattle.source.specs.declared.points.Unit.{Unit}
 use Rattle.numbers.specs.Sign.{has_minus, after_sign}
 use Rattle.numbers.specs.Integer.{read_integer}
 use Rattle.numbers.specs.Numeral.{worth_to}
@@ -38,7 +38,7 @@ module _ {s t : List ℕ} {n : Option ℕ} where
   unfolding has_minus after_sign number_in pick ◌and◌ ◌or◌
   integer_plus e h = rw (e, ← h) (map_provided (whole_is false) (is_number 2147483647 t) (value 0 t))
 
-pub integer_plain : {m : ℕ} {s : List ℕ} {c : ℕ} {r : Step} {n : Option ℕ} →
+pub integer_plain : {m : ℕ} {s : List ℕ} {c : ℕ} {r : Unit} {n : Option ℕ} →
     Reads m s c r → (r.u ≡ 45 → ⊥) → (r.u ≡ 43 → ⊥) → number_in 2147483647 (rest m s c) ≡ n → read_integer (rest m s c) ≡ option_map (whole_is false) n
 unfolding spell has_minus after_sign number_in pick ◌and◌ ◌or◌
 integer_plain {m} {s} {c} {r} {n} p h k l = rw (← l, p.is) (go (eqb r.u 256))

@@ -10,14 +10,14 @@ use Rattle.octets.specs.Pick.{pick}
 use Rattle.octets.specs.Front.{up_to}
 use Rattle.source.specs.Source.{rest, spell, Reads}
 use Rattle.source.specs.laws.Facts.{spell_byte, spell_end}
-use Rattle.source.specs.declared.Step.{Step}
+use Rattle.source.specs.declared.points.Unit.{Unit}
 use Rattle.numbers.specs.Until.{before, until, Turns}
 
 pub until_all : (m : ℕ) (s : List ℕ) (c : ℕ) → until 256 m s c ≡ rest m s c
 unfolding until pick
 until_all m s c = refl
 
-module _ {e m : ℕ} {s : List ℕ} {c : ℕ} {r : Step} (p : Turns e m s c r) where
+module _ {e m : ℕ} {s : List ℕ} {c : ℕ} {r : Unit} (p : Turns e m s c r) where
   pub turn_byte : (r.u ≡ 256 → ⊥) → until e m s c ≡ r.u ∷ until e m s r.next
   turn_byte h = p.is ∙ spell_byte r.u (until e m s r.next) h
 
@@ -29,7 +29,7 @@ module _ {e m : ℕ} {s : List ℕ} {c : ℕ} {r : Step} (p : Turns e m s c r) w
   pub turn_end : r.u ≡ 256 → until e m s c ≡ []
   turn_end h = p.is ∙ spell_end r.u (until e m s r.next) h
 
-module _ (e : ℕ) {m : ℕ} {s : List ℕ} {c : ℕ} {r : Step} (p : Reads m s c r) where
+module _ (e : ℕ) {m : ℕ} {s : List ℕ} {c : ℕ} {r : Unit} (p : Reads m s c r) where
   on : (r.u ≡ e → ⊥) → until e m s c ≡ spell r.u (until e m s r.next)
   unfolding until up_to spell pick
   on h = rw p.is (go (eqb e 256) (eqb r.u 256))

@@ -14,7 +14,7 @@ use Rattle.octets.specs.Words.{same}
 use Rattle.octets.specs.Lists.{any_one}
 use Rattle.source.specs.Source.{rest, Reads}
 use Rattle.source.specs.laws.Facts.{rest_byte, rest_end, byte_small}
-use Rattle.source.specs.declared.Step.{Step}
+use Rattle.source.specs.declared.points.Unit.{Unit}
 use Rattle.read_text_line.specs.ContentLine.{is_name}
 use Rattle.read_text_line.specs.Names.{is_carried_name}
 use Rattle.json_text.specs.Tree.{member_list}
@@ -34,7 +34,7 @@ pub record Smalls (s : List ℕ) (from at : ℕ) : Type 0 where
 pub smalls_start : (s : List ℕ) (from : ℕ) → Smalls s from from
 smalls_start s from = record { is = refl }
 
-module _ {s : List ℕ} {from at : ℕ} {n : Step} (w : Smalls s from at) (p : Reads 3 s at n) where
+module _ {s : List ℕ} {from at : ℕ} {n : Unit} (w : Smalls s from at) (p : Reads 3 s at n) where
   pub smalls_end : n.u ≡ 256 → true ≡ all_of is_small_name_char (rest 3 s from)
   unfolding all_of
   smalls_end h = sym (w.is ∙ rw (rest_end p h))
@@ -87,7 +87,7 @@ some_bad b l = rw (← (small_names (b ∷ l))) (go (all_of is_name_char (b ∷ 
     go true y z = refl
     go false y z = refl
 
-module _ {s : List ℕ} {at : ℕ} {n : Step} (p : Reads 3 s at n) where
+module _ {s : List ℕ} {at : ℕ} {n : Unit} (p : Reads 3 s at n) where
   pub bad_none : n.u ≡ 256 → true ≡ is_bad_name (rest 3 s at)
   unfolding is_name pick ◌or◌
   bad_none h = rw (rest_end p h)

@@ -7,7 +7,7 @@ use borrow.Author.Tests.{eq-eqb, ne_eqb, eqb-true, eqb-false, lt-ltb, le-ltb}
 use Rattle.octets.specs.Pick.{pick}
 use Rattle.source.specs.Source.{rest, spell, Reads}
 use Rattle.source.specs.laws.Facts.{byte_small}
-use Rattle.source.specs.declared.Step.{Step}
+use Rattle.source.specs.declared.points.Unit.{Unit}
 use Rattle.distinct.specs.Order.{order}
 
 order-spell : (u v : ℕ) (r q : List ℕ) → u ≤ 256 → v ≤ 256 → order (spell u r) (spell v q) ≡ pick (ltb u v) 1 (pick (ltb v u) 2 (pick (eqb u 256) 0 (order r q)))
@@ -20,7 +20,7 @@ order-spell u v r q h k = go (eqb u 256) refl (eqb v 256) refl
     go false e true f = let i = eqb-false u 256 e in let j = eqb-true v 256 f in rw (lt-ltb u v (omega arith))
     go false e false f = refl
 
-module _ {s : List ℕ} {c d : ℕ} {x y : Step} (p : Reads 3 s c x) (q : Reads 3 s d y) where
+module _ {s : List ℕ} {c d : ℕ} {x y : Unit} (p : Reads 3 s c x) (q : Reads 3 s d y) where
   by_units : order (rest 3 s c) (rest 3 s d) ≡ pick (ltb x.u y.u) 1 (pick (ltb y.u x.u) 2 (pick (eqb x.u 256) 0 (order (rest 3 s x.next) (rest 3 s y.next))))
   by_units = rw (p.is, q.is) (order-spell x.u y.u (rest 3 s x.next) (rest 3 s y.next) p.small q.small)
 
@@ -40,5 +40,5 @@ module _ {s : List ℕ} {c d : ℕ} {x y : Step} (p : Reads 3 s c x) (q : Reads 
   unfolding pick
   order_on l m h = by_units ∙ rw (le-ltb x.u y.u l, le-ltb y.u x.u m, ne_eqb x.u 256 h)
 
-pub order_nearer : {s : List ℕ} {c : ℕ} {x : Step} → Reads 3 s c x → (x.u ≡ 256 → ⊥) → 4 * length s - x.next < 4 * length s - c
+pub order_nearer : {s : List ℕ} {c : ℕ} {x : Unit} → Reads 3 s c x → (x.u ≡ 256 → ⊥) → 4 * length s - x.next < 4 * length s - c
 order_nearer p h = let u = byte_small p h in omega (arith, p.moved, p.inside)

@@ -18,7 +18,7 @@ use Rattle.octets.specs.Reading.{and_then, is_read, read_or}
 use Rattle.calendar.specs.Calendar.{xcal, UNKNOWN, Value, boolean, unknown}
 use Rattle.source.specs.Source.{rest, Reads}
 use Rattle.source.specs.laws.Facts.{rest_byte, rest_end, byte_small}
-use Rattle.source.specs.declared.Step.{Step}
+use Rattle.source.specs.declared.points.Unit.{Unit}
 use Rattle.schema.specs.Types.{type_place, same_type}
 use Rattle.schema.specs.laws.Types.{place_type}
 use Rattle.schema.specs.Parameters.{ParameterRow}
@@ -47,7 +47,7 @@ pub record Holding (b : ℕ) (s : List ℕ) (from at : ℕ) : Type 0 where
 pub holding_start : (b : ℕ) (s : List ℕ) (from : ℕ) → Holding b s from from
 holding_start b s from = record { is = refl }
 
-module _ {b : ℕ} {s : List ℕ} {from at : ℕ} {n : Step} (c : Holding b s from at) (p : Reads 3 s at n) where
+module _ {b : ℕ} {s : List ℕ} {from at : ℕ} {n : Unit} (c : Holding b s from at) (p : Reads 3 s at n) where
   pub holding_end : n.u ≡ 256 → false ≡ holds b (rest 3 s from)
   unfolding holds
   holding_end h = sym (c.is ∙ rw (rest_end p h))

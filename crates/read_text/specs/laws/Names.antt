@@ -14,7 +14,7 @@ use Rattle.octets.specs.laws.Letters.{upper_by_cases}
 use Rattle.octets.specs.Words.{same, is_empty}
 use Rattle.octets.specs.Runs.{after_run}
 use Rattle.source.specs.Source.{rest, spell, Reads}
-use Rattle.source.specs.declared.Step.{Step}
+use Rattle.source.specs.declared.points.Unit.{Unit}
 use Rattle.names.specs.Runs.{RunEnds}
 use Rattle.distinct.specs.Order.{order}
 use Rattle.distinct.specs.laws.Order.{order_same, order_apart}
@@ -56,7 +56,7 @@ all_after (b ∷ s) = go (is_name_char b) (all_after s)
     go true ih = unfold pick in ih
     go false ih = unfold pick in refl
 
-module _ {m : ℕ} {s : List ℕ} {c : ℕ} {x : Step} (p : Reads m s c x) where
+module _ {m : ℕ} {s : List ℕ} {c : ℕ} {x : Unit} (p : Reads m s c x) where
   at_end : x.u ≡ 256 → rest m s c ≡ []
   unfolding spell pick
   at_end h = p.is ∙ rw (eq-eqb x.u 256 h)
@@ -69,7 +69,7 @@ module _ {m : ℕ} {s : List ℕ} {c : ℕ} {x : Step} (p : Reads m s c x) where
   unfolding is_name pick ◌and◌
   name_none h = rw (at_end h)
 
-  module _ (h : x.u ≡ 256 → ⊥) {e : ℕ} (r : RunEnds is_name_char m s c e) {y : Step} (q : Reads m s e y) where
+  module _ (h : x.u ≡ 256 → ⊥) {e : ℕ} (r : RunEnds is_name_char m s c e) {y : Unit} (q : Reads m s e y) where
     name_is : is_name (rest m s c) ≡ is_empty (rest m s e)
     unfolding is_name pick
     name_is = ap (λ (l : List ℕ). pick (is_empty l) false (all_of is_name_char (rest m s c))) (not_end h) ∙ all_after (rest m s c) ∙ ap is_empty (sym r.left)

@@ -15,7 +15,7 @@ use Rattle.octets.specs.Runs.{after_run}
 use Rattle.octets.specs.Many.{One, got, bad}
 use Rattle.source.specs.Source.{rest, cuts, Reach, Reads}
 use Rattle.source.specs.laws.Facts.{rest_byte, rest_end, rest_cut, reach_rest, reach_whole}
-use Rattle.source.specs.declared.Step.{Step}
+use Rattle.source.specs.declared.points.Unit.{Unit}
 use Rattle.read_text_line.specs.ContentLine.{RawParameter, next_param, content_line}
 use Rattle.read_text_line.specs.Write.{write_parameter}
 use Rattle.read_text_line.specs.laws.Accepted.{next_param_read}
@@ -83,14 +83,14 @@ semicolon xs h = go (next_param xs) refl
     go One.none e = none_there (items-none next_param xs e)
     go (bad r) e = none_there (items_bad next_param xs r e)
 
-module _ {m : ℕ} {s : List ℕ} {c : ℕ} {n : Step} (q : Reads m s c n) (ys : List ℕ) (e : rest m s c ≡ 59 ∷ ys) where
+module _ {m : ℕ} {s : List ℕ} {c : ℕ} {n : Unit} (q : Reads m s c n) (ys : List ℕ) (e : rest m s c ≡ 59 ∷ ys) where
   some_byte : n.u ≡ 256 → ⊥
   some_byte h = let z : length (59 ∷ ys) ≡ 0 = ap length (sym e ∙ rest_end q h) in omega arith
 
   behind_semicolon : rest m s c ≡ 59 ∷ rest m s n.next
   behind_semicolon = let b = sym e ∙ rest_byte q some_byte in let u : 59 ≡ n.u = cc in rest_byte q some_byte ∙ rw u
 
-pub passing_end : {m : ℕ} {s : List ℕ} {e i c left : ℕ} {n : Step} → Passing m s e i c left → left ≤ 0 → Reads m s c n → NameAt m s e i n.next
+pub passing_end : {m : ℕ} {s : List ℕ} {e i c left : ℕ} {n : Unit} → Passing m s e i c left → left ≤ 0 → Reads m s c n → NameAt m s e i n.next
 unfolding behind
 passing_end {m} {s} {e} {i} {c} {left} {n} p h q =
     let l = p.more in

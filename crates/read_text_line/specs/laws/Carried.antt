@@ -19,7 +19,7 @@ use Rattle.octets.specs.laws.Scan.{all_split}
 use Rattle.octets.specs.Runs.{run_of}
 use Rattle.octets.specs.Words.{starts}
 use Rattle.source.specs.Source.{rest, spell, Reads}
-use Rattle.source.specs.declared.Step.{Step}
+use Rattle.source.specs.declared.points.Unit.{Unit}
 use Rattle.read_text_line.specs.ContentLine.{next_param}
 use Rattle.read_text_line.specs.Names.{starts_off_name, is_carried_name}
 use Rattle.read_text_line.specs.Cursor.{params_at}
@@ -31,7 +31,7 @@ use Rattle.read_text_line.specs.declared.ParameterCursors.{ParameterCursors}
 
 -- ---- by the unit at a cursor
 
-module _ {m : ℕ} {s : List ℕ} {c : ℕ} {n : Step} (p : Reads m s c n) where
+module _ {m : ℕ} {s : List ℕ} {c : ℕ} {n : Unit} (p : Reads m s c n) where
   off_here : starts_off_name (rest m s c) ≡ (is_digit n.u or eqb n.u 45)
   unfolding starts_off_name spell pick ◌or◌ ◌and◌
   off_here = rw p.is (go (eqb n.u 256) refl)

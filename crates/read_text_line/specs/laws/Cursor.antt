@@ -16,7 +16,7 @@ use Rattle.octets.specs.laws.Runs.{run_joined}
 use Rattle.octets.specs.Many.{One}
 use Rattle.source.specs.Source.{rest, spell, cuts, Reads}
 use Rattle.source.specs.laws.Facts.{rest_byte, cut_is, reach_here, reach_on}
-use Rattle.source.specs.declared.Step.{Step}
+use Rattle.source.specs.declared.points.Unit.{Unit}
 use Rattle.read_text_line.specs.Cursor.{Onward, OnwardTo, in_line, RunEnds, OnItem, ItemAt}
 use Rattle.read_text_line.specs.declared.Malformed.{Malformed}
 
@@ -29,14 +29,14 @@ module _ {m : ℕ} {s : List ℕ} where
   pub onward_both : {a b c : ℕ} → Onward m s a b → Onward m s b c → Onward m s a c
   onward_both p q = record { onward = omega arith; inside = omega arith; plain = λ z h. q.plain z (p.plain z h); reach = reach_on p.onward q.onward p.reach q.reach }
 
-  pub onward_byte : {c : ℕ} {n : Step} → Reads m s c n → (n.u ≡ 256 → ⊥) → Onward m s c n.next
+  pub onward_byte : {c : ℕ} {n : Unit} → Reads m s c n → (n.u ≡ 256 → ⊥) → Onward m s c n.next
   onward_byte {c} {n} p h =
       let k : n.u < 256 = omega (arith, p.small, h) in
       record { onward = omega arith; inside = omega arith; plain = λ z l. p.plain z h; reach = p.reach }
 
 -- ---- a byte at a cursor
 
-module _ {A : Type 0} {m : ℕ} {s : List ℕ} {c : ℕ} {n : Step} (p : Reads m s c n) (b : ℕ) (f : List ℕ → A) (d : A) where
+module _ {A : Type 0} {m : ℕ} {s : List ℕ} {c : ℕ} {n : Unit} (p : Reads m s c n) (b : ℕ) (f : List ℕ → A) (d : A) where
   pub byte_at : n.u ≡ b → (b ≡ 256 → ⊥) → after_byte b (rest m s c) f d ≡ f (rest m s n.next)
   unfolding after_byte pick
   byte_at e h = rw (rest_byte p (λ k. h (sym e ∙ k)), eq-eqb n.u b e)
@@ -67,7 +67,7 @@ pub record Passing (p : ℕ → Bool) (m : ℕ) (s : List ℕ) (c₀ c : ℕ) : 
 pub passing_start : (p : ℕ → Bool) (m : ℕ) (s : List ℕ) (c : ℕ) → Passing p m s c c
 passing_start p m s c = record { left = refl; to = onward_here c }
 
-module _ {p : ℕ → Bool} {m : ℕ} {s : List ℕ} {c₀ c : ℕ} {n : Step} (t : Passing p m s c₀ c) (q : Reads m s c n) where
+module _ {p : ℕ → Bool} {m : ℕ} {s : List ℕ} {c₀ c : ℕ} {n : Unit} (t : Passing p m s c₀ c) (q : Reads m s c n) where
   some_byte : in_line p n.u ≡ true → n.u ≡ 256 → ⊥
   some_byte h = eqb-false n.u 256 (pick_second (eqb n.u 256) (p n.u) h).0
 
@@ -112,7 +112,7 @@ on_item P Q (Ok (Some v)) f h = f v h
 on_item P Q (Ok None) f h = tt
 on_item P Q (Err e) f h = tt
 
-module _ {C A : Type 0} {p : List ℕ → One A} {m : ℕ} {s : List ℕ} {c : ℕ} {n : Step} {item : C → A} {behind : C → ℕ} (b : ℕ) (q : List ℕ → One A) (d : One A) (e : (xs : List ℕ) → p xs ≡ after_byte b xs q d) (t : Reads m s c n) where
+module _ {C A : Type 0} {p : List ℕ → One A} {m : ℕ} {s : List ℕ} {c : ℕ} {n : Unit} {item : C → A} {behind : C → ℕ} (b : ℕ) (q : List ℕ → One A) (d : One A) (e : (xs : List ℕ) → p xs ≡ after_byte b xs q d) (t : Reads m s c n) where
   -- an item behind a byte
   pub item_behind : {r : Result (Option C) Malformed} → (b ≡ 256 → ⊥) → n.u ≡ b → ItemAt q m s n.next item behind r → ItemAt p m s c item behind r
   item_behind {r} h k i = record {

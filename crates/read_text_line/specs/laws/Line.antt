@@ -9,7 +9,7 @@ use Rattle.octets.specs.Scan.{span_len, all_of}
 use Rattle.octets.specs.Runs.{after_run, run_of}
 use Rattle.source.specs.Source.{rest, Reads}
 use Rattle.source.specs.laws.Facts.{rest_byte, rest_end}
-use Rattle.source.specs.declared.Step.{Step}
+use Rattle.source.specs.declared.points.Unit.{Unit}
 use Rattle.read_text_line.specs.ContentLine.{is_value_char, next_param, with_value, content_line}
 use Rattle.read_text_line.specs.Items.{items}
 use Rattle.read_text_line.specs.Cursor.{Onward, RunEnds, params_at}
@@ -32,8 +32,8 @@ all_run p (x ∷ xs) = go (p x) (all_run p xs)
     go true h = h
     go false h = refl
 
-module _ {m : ℕ} {s : List ℕ} {c : ℕ} {n : Step} (p : Reads m s c n) where
-  module _ {t : ℕ} {z : Step} (e : n.u ≡ 58) (r : RunEnds is_value_char m s n.next t) (q : Reads m s t z) where
+module _ {m : ℕ} {s : List ℕ} {c : ℕ} {n : Unit} (p : Reads m s c n) where
+  module _ {t : ℕ} {z : Unit} (e : n.u ≡ 58) (r : RunEnds is_value_char m s n.next t) (q : Reads m s t z) where
     pub tail_there : z.u ≡ 256 → TailAt m s c (Some n.next)
     unfolding with_value pick
     tail_there h = record {

@@ -25,7 +25,7 @@ use Rattle.folding.specs.Lines.{whole, loose, lines_from, to_break}
 use Rattle.folding.specs.laws.Lines.{lines_at_break, first_loose}
 use Rattle.source.specs.Source.{rest, spell, cuts, Reads, Settled}
 use Rattle.source.specs.laws.Facts.{rest_byte, rest_end, rest_cut, cut_is, rest_past, reach_other, plain_byte, settled_here}
-use Rattle.source.specs.declared.Step.{Step}
+use Rattle.source.specs.declared.points.Unit.{Unit}
 use Rattle.read_text_line.specs.Cursor.{Onward}
 use Rattle.read_text_line.specs.laws.Cursor.{onward_here, onward_both, onward_byte}
 use Rattle.read_text_line.specs.LineEnd.{index, lines_at, LineEnds, EndsLine}
@@ -68,7 +68,7 @@ pub record Seeking (m : ℕ) (s : List ℕ) (c₀ c : ℕ) : Type 0 where
 pub seeking_start : (m : ℕ) (s : List ℕ) (c : ℕ) → Seeking m s c c
 seeking_start m s c = record { line = []; is = sym (append_empty (rest m s c)); left = omega arith; to = onward_here c }
 
-module _ {m : ℕ} {s : List ℕ} {c₀ c : ℕ} {n : Step} (t : Seeking m s c₀ c) (p : Reads m s c n) where
+module _ {m : ℕ} {s : List ℕ} {c₀ c : ℕ} {n : Unit} (t : Seeking m s c₀ c) (p : Reads m s c n) where
   pub seeking_none : n.u ≡ 256 → EndsLine m s c₀ None
   unfolding to_break
   seeking_none h =
@@ -95,7 +95,7 @@ module _ {m : ℕ} {s : List ℕ} {c₀ c : ℕ} {n : Step} (t : Seeking m s c�
     pub seeking_less : 4 * length s - n.next < 4 * length s - c
     seeking_less = let u : n.u < 256 = omega (arith, p.small, h) in omega arith
 
-    module _ {k : Step} (q : Reads m s n.next k) where
+    module _ {k : Unit} (q : Reads m s n.next k) where
       pub seeking_return : (k.u ≡ 10 → ⊥) → Seeking m s c₀ n.next
       unfolding starts spell pick ◌and◌
       seeking_return e = seeking_byte (rw (rest_byte p h, q.is) (go (eqb 13 n.u) (eqb k.u 256)))

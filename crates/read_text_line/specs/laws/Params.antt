@@ -15,7 +15,7 @@ use Rattle.octets.specs.Runs.{after_run, run_of}
 use Rattle.octets.specs.Many.{One, bad}
 use Rattle.source.specs.Source.{rest, spell, cuts, Reads}
 use Rattle.source.specs.laws.Facts.{rest_byte}
-use Rattle.source.specs.declared.Step.{Step}
+use Rattle.source.specs.declared.points.Unit.{Unit}
 use Rattle.names.specs.laws.Runs.{run_cut as name_cut}
 use Rattle.read_text_line.specs.ContentLine.{RawParameter, param, next_param}
 use Rattle.read_text_line.specs.Cursor.{Onward, RunEnds, one_to, params_at}
@@ -41,7 +41,7 @@ module _ {m : ℕ} {s : List ℕ} {c : ℕ} where
   unfolding after_run
   name_run n = record { left = n.left; to = name_onward n }
 
-  module _ {n : Step} {t : Bool} (p : Reads m s c n) (e : t ≡ is_name_char n.u) where
+  module _ {n : Unit} {t : Bool} (p : Reads m s c n) (e : t ≡ is_name_char n.u) where
     name_here : t ≡ true → false ≡ is_empty (run_of is_name_char (rest m s c))
     unfolding run_of span_len pick
     name_here h = let k : is_name_char n.u ≡ true = sym e ∙ h in rw (rest_byte p (end_no_name n.u k), k)
@@ -72,7 +72,7 @@ module _ {m : ℕ} {s : List ℕ} {c : ℕ} where
   faulty : {p : List ℕ → One RawParameter} {x : Malformed} → p (rest m s c) ≡ bad (rest m s c) → ParamOf p m s c (Err x)
   faulty e = record { item = record { fault = rest m s c; is = e; to = tt }; parts = tt }
 
-  module _ {e : ℕ} {n : Step} (h : NameEnds m s c e) (p : Reads m s e n) where
+  module _ {e : ℕ} {n : Unit} (h : NameEnds m s c e) (p : Reads m s e n) where
     -- behind the equals sign, where the values are read
     valued : (r : Result ℕ Malformed) → n.u ≡ 61 → (a : ValuesAt m s n.next r) → named_param (rest m s c) ≡ one_to m s (param_in m s c n.next) r a.fault
     valued r k a = rw (← (name_run h).left) (byte_at p 61 _ _ k (λ z. omega arith)) ∙ a.is (run_of is_name_char (rest m s c))
@@ -98,7 +98,7 @@ module _ {m : ℕ} {s : List ℕ} {c : ℕ} where
   unfolding param
   param_named e h a = record { item = record { fault = a.item.fault; is = pick_no _ _ _ (sym e ∙ h) ∙ a.item.is; to = a.item.to }; parts = a.parts }
 
-  module _ {n : Step} (p : Reads m s c n) where
+  module _ {n : Unit} (p : Reads m s c n) where
     pub param_there : {r : Result (Option ParameterCursors) Malformed} → n.u ≡ 59 → ParamOf param m s n.next r → ParamOf next_param m s c r
     unfolding next_param
     param_there {r} k a = record {

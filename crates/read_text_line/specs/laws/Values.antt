@@ -7,7 +7,7 @@ use Rattle.std.specs.Prelude.{true, false, List, [], ◌∷◌, ℕ, ◌-◌, �
 use Rattle.octets.specs.Runs.{run_of}
 use Rattle.octets.specs.Many.{One}
 use Rattle.source.specs.Source.{rest, cuts, Reads}
-use Rattle.source.specs.declared.Step.{Step}
+use Rattle.source.specs.declared.points.Unit.{Unit}
 use Rattle.read_text_line.specs.ContentLine.{ParamValue, is_q_safe_char, is_safe_char, paramtext, quoted_string, param_value, next_value, with_values, with_first}
 use Rattle.read_text_line.specs.Items.{items}
 use Rattle.read_text_line.specs.Cursor.{Onward, RunEnds, OnItem, one_to, values_of, values_at}
@@ -21,7 +21,7 @@ use Rattle.read_text_line.specs.declared.ValueCursors.{ValueCursors}
 module _ {m : ℕ} {s : List ℕ} {c : ℕ} where
   -- ---- quoted-string, behind its first DQUOTE: its characters end at t
 
-  module _ {t : ℕ} {n : Step} (e : RunEnds is_q_safe_char m s c t) (p : Reads m s t n) where
+  module _ {t : ℕ} {n : Unit} (e : RunEnds is_q_safe_char m s c t) (p : Reads m s t n) where
     pub quoted_closed : n.u ≡ 34 → ValueAt quoted_string m s c (Ok (Some (record { quoted = true; from = c; to = t; next = n.next })))
     unfolding quoted_string
     quoted_closed h =
@@ -36,7 +36,7 @@ module _ {m : ℕ} {s : List ℕ} {c : ℕ} where
 
   -- ---- param-value, and "," param-value
 
-  module _ {n : Step} (p : Reads m s c n) where
+  module _ {n : Unit} (p : Reads m s c n) where
     parts_on : (r : Result (Option ValueCursors) Malformed) → (n.u ≡ 256 → ⊥) → OnItem r (ValueParts m s n.next) → OnItem r (ValueParts m s c)
     parts_on r h = on_item (ValueParts m s n.next) (ValueParts m s c) r (λ v a. record { start = onward_both (onward_byte p h) a.start; chars = a.chars; behind = a.behind })
 

@@ -13,7 +13,7 @@ use Rattle.octets.specs.Class.{upper}
 use Rattle.octets.specs.Words.{same, is_one_of, is_empty}
 use Rattle.edition.specs.Edition.{decode}
 use Rattle.edition.specs.declared.Edition.{Edition}
-use Rattle.source.specs.Source.{rest, cuts, Decodes}
+use Rattle.source.specs.Source.{rest, cuts}
 use Rattle.read_text_line.specs.ContentLine.{ParamValue, param_value, next_value}
 use Rattle.read_text_line.specs.Items.{items}
 use Rattle.read_text_line.specs.Decoded.{decoded_value, values_in}
@@ -77,15 +77,12 @@ module _ (w : List ℕ) where
 -- ---- one word, in the encoding u of a value
 
 module _ (ed : Edition) {m : ℕ} (y : cuts m ≡ true) (w : List ℕ) {s : List ℕ} {c : ℕ} {r : Result (Option ValueCursors) Malformed} (v : ValueAt param_value m s c r) where
-  module _ {u : ℕ} (d : Decodes ed m u) {b : Bool} {vc : ValueCursors} (h : r ≡ Ok (Some vc)) (e : b ≡ same (name_cut u s vc.from vc.to) w) where
-    stands : b ≡ same (upper (decode ed (rest m (take vc.to s) vc.from))) w
-    stands = e ∙ ap (λ (l : List ℕ). same (upper l) w) (d.is (take vc.to s) vc.from)
-
+  module _ {b : Bool} {vc : ValueCursors} (h : r ≡ Ok (Some vc)) (e : b ≡ same (upper (decode ed (rest m (take vc.to s) vc.from))) w) where
     pub word_one : {a : Bool} → b ≡ true → a ≡ is_empty (items next_value (rest m s vc.next)) → a ≡ is_word w (values_in ed m s c)
-    word_one k f = and_go _ _ _ (sym stands ∙ k) (f ∙ sym (map_empty (decoded_value ed) (items next_value (rest m s vc.next)))) ∙ sym (ap (λ (l : List ParamValue). is_word w (map (decoded_value ed) l)) (values_first y v h))
+    word_one k f = and_go _ _ _ (sym e ∙ k) (f ∙ sym (map_empty (decoded_value ed) (items next_value (rest m s vc.next)))) ∙ sym (ap (λ (l : List ParamValue). is_word w (map (decoded_value ed) l)) (values_first y v h))
 
     pub word_other : b ≡ false → false ≡ is_word w (values_in ed m s c)
-    word_other k = and_stop _ _ (sym stands ∙ k) ∙ sym (ap (λ (l : List ParamValue). is_word w (map (decoded_value ed) l)) (values_first y v h))
+    word_other k = and_stop _ _ (sym e ∙ k) ∙ sym (ap (λ (l : List ParamValue). is_word w (map (decoded_value ed) l)) (values_first y v h))
 
   pub word_none : {x : Malformed} → r ≡ Err x → false ≡ is_word w (values_in ed m s c)
   word_none h = sym (ap (λ (l : List ParamValue). is_word w (map (decoded_value ed) l)) (values_none y v h))

@@ -12,7 +12,7 @@ use Rattle.octets.specs.Class.{upper_byte, upper}
 use Rattle.octets.specs.Words.{same}
 use Rattle.source.specs.Source.{rest, spell, Reads}
 use Rattle.source.specs.laws.Facts.{rest_byte, rest_end, byte_small}
-use Rattle.source.specs.declared.Step.{Step}
+use Rattle.source.specs.declared.points.Unit.{Unit}
 use Rattle.names.specs.laws.Case.{same_step, same_empty, empty_unit, cased_small}
 use Rattle.names.specs.declared.Case.TheVariants.{Capital}
 
@@ -21,7 +21,7 @@ end_upper : (u : ℕ) → u ≡ 256 → upper_byte u ≡ 256
 unfolding pick ◌and◌
 end_upper u h = rw h
 
-module _ {m : ℕ} {s t : List ℕ} {c d : ℕ} {x y : Step} (p : Reads m s c x) (q : Reads m t d y) where
+module _ {m : ℕ} {s t : List ℕ} {c d : ℕ} {x y : Unit} (p : Reads m s c x) (q : Reads m t d y) where
   -- where a byte of the second is found
   byte_there : (y.u ≡ 256 → ⊥) → same (upper (rest m s c)) (upper (rest m t d)) ≡ (eqb (upper_byte x.u) (upper_byte y.u) and same (upper (rest m s x.next)) (upper (rest m t y.next)))
   unfolding upper
@@ -58,5 +58,5 @@ module _ {m : ℕ} {s t : List ℕ} {c d : ℕ} {x y : Step} (p : Reads m s c x)
         other : y.u ≡ 256 → ⊥
         other g = let l : upper_byte x.u < 256 = cased_small Capital x.u (byte_small p k) in let m : upper_byte y.u ≡ 256 = end_upper y.u g in omega arith
 
-pub same_less : {m : ℕ} {s : List ℕ} {c : ℕ} {x : Step} → Reads m s c x → (x.u ≡ 256 → ⊥) → 4 * length s - x.next < 4 * length s - c
+pub same_less : {m : ℕ} {s : List ℕ} {c : ℕ} {x : Unit} → Reads m s c x → (x.u ≡ 256 → ⊥) → 4 * length s - x.next < 4 * length s - c
 same_less p h = let u = byte_small p h in omega arith

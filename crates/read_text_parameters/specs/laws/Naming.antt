@@ -13,7 +13,7 @@ use Rattle.octets.specs.Scan.{span_len}
 use Rattle.octets.specs.Runs.{run_of}
 use Rattle.source.specs.Source.{rest, spell, Reads}
 use Rattle.source.specs.laws.Facts.{rest_byte, byte_small}
-use Rattle.source.specs.declared.Step.{Step}
+use Rattle.source.specs.declared.points.Unit.{Unit}
 use Rattle.distinct.specs.Order.{order}
 use Rattle.read_text_line.specs.ContentLine.{next_param}
 use Rattle.read_text_line.specs.Params.{ParamOf}
@@ -52,7 +52,7 @@ upper_small u h = pick_either (λ (k : ℕ). k < 256) _ (u - 32) u (omega arith)
 unit_small : (u : ℕ) → name_unit u ≤ 256
 unit_small u = pick_case (λ (k : ℕ). k ≤ 256) (is_name_char u) (upper_byte u) 256 (λ h. let l = upper_small u (char_small u h) in omega (arith, l)) (λ h. omega arith)
 
-name_spell : {m : ℕ} {s : List ℕ} {c : ℕ} {x : Step} → Reads m s c x → name_at m s c ≡ spell (name_unit x.u) (name_at m s x.next)
+name_spell : {m : ℕ} {s : List ℕ} {c : ℕ} {x : Unit} → Reads m s c x → name_at m s c ≡ spell (name_unit x.u) (name_at m s x.next)
 unfolding name_at upper pick run_of span_len spell
 name_spell {m} {s} {c} {x} p = go (is_name_char x.u) refl
   where
@@ -82,7 +82,7 @@ order_spelled a b r q h k = go (eqb a 256) refl (eqb b 256) refl
     go false e true f = let i = eqb-false a 256 e in let j = eqb-true b 256 f in rw (lt-ltb a b (omega (arith, i)))
     go false e false f = refl
 
-module _ {m : ℕ} {s : List ℕ} {c d : ℕ} {x y : Step} (p : Reads m s c x) (q : Reads m s d y) {a b : ℕ} (e : a ≡ name_unit x.u) (f : b ≡ name_unit y.u) {v : ℕ} (i : v ≡ order (name_at m s c) (name_at m s d)) where
+module _ {m : ℕ} {s : List ℕ} {c d : ℕ} {x y : Unit} (p : Reads m s c x) (q : Reads m s d y) {a b : ℕ} (e : a ≡ name_unit x.u) (f : b ≡ name_unit y.u) {v : ℕ} (i : v ≡ order (name_at m s c) (name_at m s d)) where
   by_units : v ≡ pick (ltb a b) 1 (pick (ltb b a) 2 (pick (eqb a 256) 0 (order (name_at m s x.next) (name_at m s y.next))))
   by_units = i ∙ rw (e, f, name_spell p, name_spell q) (order_spelled (name_unit x.u) (name_unit y.u) (name_at m s x.next) (name_at m s y.next) (unit_small x.u) (unit_small y.u))
 
@@ -103,7 +103,7 @@ module _ {m : ℕ} {s : List ℕ} {c d : ℕ} {x y : Step} (p : Reads m s c x) (
   name_on l k h = by_units ∙ rw (le-ltb a b l, le-ltb b a k, ne_eqb a 256 h)
 
 -- what is no 256 is a character
-pub name_nearer : {m : ℕ} {s : List ℕ} {c a : ℕ} {x : Step} → Reads m s c x → a ≡ name_unit x.u → (a ≡ 256 → ⊥) → 4 * length s - x.next < 4 * length s - c
+pub name_nearer : {m : ℕ} {s : List ℕ} {c a : ℕ} {x : Unit} → Reads m s c x → a ≡ name_unit x.u → (a ≡ 256 → ⊥) → 4 * length s - x.next < 4 * length s - c
 name_nearer {m} {s} {c} {a} {x} p e h = go (is_name_char x.u) refl
   where
     go : (t : Bool) → is_name_char x.u ≡ t → 4 * length s - x.next < 4 * length s - c

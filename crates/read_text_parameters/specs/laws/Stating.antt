@@ -14,7 +14,8 @@ use Rattle.octets.specs.Words.{same, is_empty}
 use Rattle.octets.specs.laws.Reading.{none-some}
 use Rattle.calendar.specs.Calendar.{ValueType, UNKNOWN}
 use Rattle.edition.specs.declared.Edition.{Edition}
-use Rattle.source.specs.Source.{rest, cuts, Decodes}
+use Rattle.edition.specs.Edition.{decode}
+use Rattle.source.specs.Source.{rest, cuts}
 use Rattle.names.specs.Table.{place_of, nth}
 use Rattle.schema.specs.Types.{value_types, type_named, type_place}
 use Rattle.schema.specs.laws.Types.{place_type}
@@ -65,9 +66,9 @@ module _ (ed : Edition) {m : ℕ} {s : List ℕ} {c : ℕ} {r : Result (Option V
     several : is_empty (map (decoded_value ed) (items next_value (rest m s vc.next))) ≡ b
     several = map_empty (decoded_value ed) (items next_value (rest m s vc.next)) ∙ sym e
 
-    pub value_single : {t : Option ℕ} {u : ℕ} → Decodes ed m u → b ≡ true → TypeOf (type_named (upper (rest u (take vc.to s) vc.from))) t → TypeOf (type_in (values_in ed m s c)) t
+    pub value_single : {t : Option ℕ} → b ≡ true → TypeOf (type_named (upper (decode ed (rest m (take vc.to s) vc.from)))) t → TypeOf (type_in (values_in ed m s c)) t
     unfolding pick
-    value_single {t} d k p = rw (values_first y v h, several, k) (subst (λ (l : List ℕ). TypeOf (type_named (upper l)) t) (d.is (take vc.to s) vc.from) p)
+    value_single k p = rw (values_first y v h, several, k) p
 
     pub value_several : b ≡ false → TypeOf (type_in (values_in ed m s c)) None
     unfolding pick

@@ -12,7 +12,7 @@ use Rattle.octets.specs.Reading.{and_then, is_read, cons_read, read_each}
 use Rattle.calendar.specs.Calendar.{ical, ValueType, TEXT, UNKNOWN, Value, text}
 use Rattle.source.specs.Source.{rest, cuts, Reads}
 use Rattle.source.specs.laws.Facts.{rest_past}
-use Rattle.source.specs.declared.Step.{Step}
+use Rattle.source.specs.declared.points.Unit.{Unit}
 use Rattle.schema.specs.Types.{value_types, same_type}
 use Rattle.schema.specs.Numbers.{type_at}
 use Rattle.schema.specs.laws.Places.{type_back}
@@ -39,7 +39,7 @@ module _ (t : ValueType) {m : ℕ} {s : List ℕ} {c₀ c e : ℕ} (l : Left (ea
   unfolding ◌and◌
   each_bad h = sym (l.left ∙ ap (each_value t) (pieces_any d) ∙ each_first t _ _ ∙ rw h)
 
-  module _ {n : Step} (q : Reads m s e n) (h : is_read (read_value ical t (rest m (take e s) c)) ≡ true) where
+  module _ {n : Unit} (q : Reads m s e n) (h : is_read (read_value ical t (rest m (take e s) c)) ≡ true) where
     pub each_last : n.u ≡ 256 → true ≡ each_value t (cut_at 44 (rest m s c₀))
     unfolding ◌and◌
     each_last z = sym (l.left ∙ ap (each_value t) (pieces_last d q z) ∙ each_first t _ _ ∙ rw h (each_none t))

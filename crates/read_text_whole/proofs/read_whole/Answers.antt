@@ -19,8 +19,5 @@ slice_bounds-judged-end c = kept_inside c.unfold-n.ensures
 pub slice_bounds-judged-end-2 : goal.slice_bounds-judged-end-2
 slice_bounds-judged-end-2 c = kept_count c.unfold-n.ensures
 
-pub judged-requires : goal.judged-requires
-judged-requires c = refl
-
 pub returns : goal.returns
 returns c = unfolded_read c.args.input.now c.args.work.now c.args.edition (omega arith) (omega arith) c.judged.result (sym c.in-Some.is ∙ c.edition_of.ensures) c.unfold-n.ensures c.judged.ensures

@@ -12,7 +12,7 @@ use Rattle.octets.specs.Class.{is_capital}
 use Rattle.calendar.specs.Refusal.{Verdict, fine}
 use Rattle.source.specs.Source.{rest, Reads}
 use Rattle.source.specs.laws.Facts.{rest_byte, rest_end, byte_small}
-use Rattle.source.specs.declared.Step.{Step}
+use Rattle.source.specs.declared.points.Unit.{Unit}
 use Rattle.xml.specs.Nodes.{Nodes, no_nodes, element, literal, referred, has_element}
 use Rattle.xcal.specs.Layout.{has_capital, unexpected, inner_element}
 use Rattle.xml.specs.NodesAt.{nodes_at}
@@ -131,7 +131,7 @@ pub record Capitals (s : List ℕ) (from at : ℕ) : Type 0 where
 pub capitals_start : (s : List ℕ) (from : ℕ) → Capitals s from from
 capitals_start s from = record { is = refl }
 
-module _ {s : List ℕ} {from at : ℕ} {n : Step} (c : Capitals s from at) (p : Reads 0 s at n) where
+module _ {s : List ℕ} {from at : ℕ} {n : Unit} (c : Capitals s from at) (p : Reads 0 s at n) where
   pub capitals_end : n.u ≡ 256 → false ≡ has_capital (rest 0 s from)
   unfolding has_capital
   capitals_end h = sym (c.is ∙ rw (rest_end p h))

@@ -19,7 +19,7 @@ use Rattle.octets.specs.Reading.{is_read}
 use Rattle.calendar.specs.Calendar.{xcal, Value, unknown}
 use Rattle.source.specs.Source.{rest, Reads}
 use Rattle.source.specs.laws.Facts.{rest_byte, rest_end, byte_small, rest_plain}
-use Rattle.source.specs.declared.Step.{Step}
+use Rattle.source.specs.declared.points.Unit.{Unit}
 use Rattle.names.specs.Table.{place_of, names_in}
 use Rattle.schema.specs.Types.{type_place, same_type}
 use Rattle.schema.specs.laws.Types.{place_type}
@@ -49,7 +49,7 @@ pub record Holding (b m : ℕ) (s : List ℕ) (from at : ℕ) : Type 0 where
 pub holding_start : (b m : ℕ) (s : List ℕ) (from : ℕ) → Holding b m s from from
 holding_start b m s from = record { is = refl }
 
-module _ {b m : ℕ} {s : List ℕ} {from at : ℕ} {n : Step} (c : Holding b m s from at) (p : Reads m s at n) where
+module _ {b m : ℕ} {s : List ℕ} {from at : ℕ} {n : Unit} (c : Holding b m s from at) (p : Reads m s at n) where
   pub holding_end : n.u ≡ 256 → false ≡ holds b (rest m s from)
   unfolding holds
   holding_end h = sym (c.is ∙ rw (rest_end p h))

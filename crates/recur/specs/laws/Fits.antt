@@ -21,7 +21,7 @@ use Rattle.octets.specs.Front.{up_to, from_on}
 use Rattle.calendar.specs.Calendar.{Format, format_of}
 use Rattle.source.specs.Source.{rest, Reads}
 use Rattle.source.specs.laws.Facts.{rest_byte, rest_end}
-use Rattle.source.specs.declared.Step.{Step}
+use Rattle.source.specs.declared.points.Unit.{Unit}
 use Rattle.names.specs.Case.{cased, case_of}
 use Rattle.times.specs.Date.{read_date}
 use Rattle.times.specs.DateTime.{read_date_time}
@@ -130,7 +130,7 @@ word_found x s ws {n} {l} e h = rw (h, e, word_case x s) (sym (one_of_place (in_
 pub record Lettered (m : ℕ) (s : List ℕ) (c₀ c : ℕ) : Type 0 where
   pub left : from_on is_alpha (rest m s c₀) ≡ from_on is_alpha (rest m s c)
 
-module _ {m : ℕ} {s : List ℕ} {c₀ c : ℕ} {r : Step} (t : Lettered m s c₀ c) (p : Reads m s c r) where
+module _ {m : ℕ} {s : List ℕ} {c₀ c : ℕ} {r : Unit} (t : Lettered m s c₀ c) (p : Reads m s c r) where
   pub letter_end : r.u ≡ 256 → from_on is_alpha (rest m s c₀) ≡ rest m s c
   unfolding from_on
   letter_end h = t.left ∙ rw (rest_end p h)

@@ -21,7 +21,7 @@ use Rattle.octets.specs.Reading.{is_read}
 use Rattle.octets.specs.laws.Reading.{none-some}
 use Rattle.octets.specs.Front.{up_to}
 use Rattle.source.specs.Source.{rest, cuts, Within, Reads}
-use Rattle.source.specs.declared.Step.{Step}
+use Rattle.source.specs.declared.points.Unit.{Unit}
 use Rattle.names.specs.Table.{place_of}
 use Rattle.names.specs.laws.Places.{place_back}
 use Rattle.recur.specs.Parts.{part_names}
@@ -222,7 +222,7 @@ module _ {m : ℕ} {s : List ℕ} {c₀ : ℕ} {t : List (Option ℕ)} {c e g : 
     pub walk_place : g < 14
     walk_place = rw q (known (rest m (take e s) c) h)
 
-    module _ (z : is_some (get_or t g None) ≡ false) {n : Step} (p : Reads m s e n) where
+    module _ (z : is_some (get_or t g None) ≡ false) {n : Unit} (p : Reads m s e n) where
       last_noted : n.u ≡ 256 → Noting m s (cut_at 59 (rest m s c₀)) (set t g (Some c)) []
       last_noted k = one_noted (rw (pieces_last d p k) at i.noting) q h (none_is (get_or t g None) z) c (piece_is d) i.inside.most
 

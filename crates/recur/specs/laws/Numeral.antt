@@ -13,7 +13,7 @@ use Rattle.octets.specs.Decimal.{value}
 use Rattle.octets.specs.Reading.{provided}
 use Rattle.octets.specs.laws.Reading.{none-some}
 use Rattle.source.specs.Source.{rest, spell}
-use Rattle.source.specs.declared.Step.{Step}
+use Rattle.source.specs.declared.points.Unit.{Unit}
 use Rattle.numbers.specs.Numeral.{front, Fronts, worth_to}
 use Rattle.numbers.specs.laws.Numeral.{fronts_byte, fronts_end}
 use Rattle.numbers.specs.Sign.{after_sign}
@@ -22,7 +22,7 @@ use Rattle.recur.specs.Numeral.{numeral_in}
 
 -- ---- a sign
 
-module _ {l : Bool} {m : ℕ} {s : List ℕ} {c : ℕ} {r : Step} (p : Fronts l m s c r) where
+module _ {l : Bool} {m : ℕ} {s : List ℕ} {c : ℕ} {r : Unit} (p : Fronts l m s c r) where
   pub sign_plus : r.u ≡ 43 → after_sign (front l (rest m s c)) ≡ front l (rest m s r.next)
   unfolding after_sign spell pick ◌or◌
   sign_plus h = rw (p.is, h)
@@ -95,7 +95,7 @@ leb_less x y h = go (leb x (y - 1)) refl
     go true e = le-leb (suc x) y (omega (arith, leb-true x (y - 1) e))
     go false e = lt-leb (suc x) y (omega (arith, leb-false x (y - 1) e))
 
-module _ {d : ℕ} {l : Bool} {m : ℕ} {s : List ℕ} {c₀ c i : ℕ} {r : Step} (t : Passed d l m s c₀ c i) (p : Fronts l m s c r) where
+module _ {d : ℕ} {l : Bool} {m : ℕ} {s : List ℕ} {c₀ c i : ℕ} {r : Unit} (t : Passed d l m s c₀ c i) (p : Fronts l m s c r) where
   pub passed_end : r.u ≡ 256 → true ≡ is_short d (front l (rest m s c₀))
   passed_end h = sym (t.left ∙ rw (fronts_end p h) (le-leb 0 (d - i) (omega arith)))
 

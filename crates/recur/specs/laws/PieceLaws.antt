@@ -15,7 +15,7 @@ use Rattle.octets.specs.Front.{up_to, from_on}
 use Rattle.calendar.specs.Calendar.{ical}
 use Rattle.source.specs.Source.{rest, Within, Reads, Reach}
 use Rattle.source.specs.laws.Facts.{rest_byte, rest_end, byte_small, cut_is, reach_here, reach_on}
-use Rattle.source.specs.declared.Step.{Step}
+use Rattle.source.specs.declared.points.Unit.{Unit}
 use Rattle.recur.specs.Parts.{part_names}
 use Rattle.recur.specs.Item.{read_item}
 use Rattle.recur.specs.Pieces.{Ends, are_items}
@@ -57,10 +57,10 @@ pub record Ending (k m : ℕ) (s : List ℕ) (c₀ c : ℕ) : Type 0 where
 pub ending_start : (k m : ℕ) (s : List ℕ) (c : ℕ) → Within m s c → Ending k m s c c
 ending_start k m s c h = record { left = refl; onward = omega arith; inside = h; reach = reach_here m s c }
 
-pub step_less : {m : ℕ} {s : List ℕ} {c : ℕ} {r : Step} → Within m s c → Reads m s c r → (r.u ≡ 256 → ⊥) → (c < r.next) × Within m s r.next
+pub step_less : {m : ℕ} {s : List ℕ} {c : ℕ} {r : Unit} → Within m s c → Reads m s c r → (r.u ≡ 256 → ⊥) → (c < r.next) × Within m s r.next
 step_less {m} {s} {c} {r} w q h = let b = byte_small q h in let m = q.moved in (omega arith, record { cut = w.cut; most = q.plain w.cut h })
 
-module _ {k m : ℕ} {s : List ℕ} {c₀ c : ℕ} {r : Step} (t : Ending k m s c₀ c) (q : Reads m s c r) where
+module _ {k m : ℕ} {s : List ℕ} {c₀ c : ℕ} {r : Unit} (t : Ending k m s c₀ c) (q : Reads m s c r) where
   ended : from_on (λ (b : ℕ). eqb b k) (rest m s c) ≡ rest m s c → Ends k m s c₀ c
   ended h =
       let e : rest m s c ≡ from_on (λ (b : ℕ). eqb b k) (rest m s c₀) = sym (t.left ∙ h) in record {
@@ -101,7 +101,7 @@ module _ {k m : ℕ} {s : List ℕ} {c e : ℕ} (p : Ends k m s c e) where
   pub pieces_any : cut_at k (rest m s c) ≡ rest m (take e s) c ∷ later_of k (rest m s e)
   pieces_any = cut_first k (rest m s c) ∙ rw (piece_is, ← p.left)
 
-  module _ {n : Step} (q : Reads m s e n) where
+  module _ {n : Unit} (q : Reads m s e n) where
     pub pieces_last : n.u ≡ 256 → cut_at k (rest m s c) ≡ rest m (take e s) c ∷ []
     unfolding later_of
     pieces_last h = pieces_any ∙ rw (rest_end q h)
@@ -128,7 +128,7 @@ module _ (p : ℕ) {m : ℕ} {s : List ℕ} {c₀ c e : ℕ} (t : Left (are_item
   unfolding are_items ◌and◌
   items_bad h = sym (t.left ∙ rw (pieces_any d, h))
 
-  module _ {n : Step} (q : Reads m s e n) (h : is_read (read_item ical (get_or part_names p []) (rest m (take e s) c)) ≡ true) where
+  module _ {n : Unit} (q : Reads m s e n) (h : is_read (read_item ical (get_or part_names p []) (rest m (take e s) c)) ≡ true) where
     pub items_last : n.u ≡ 256 → true ≡ are_items p (cut_at 44 (rest m s c₀))
     unfolding are_items ◌and◌
     items_last z = sym (t.left ∙ rw (pieces_last d q z, h))

@@ -22,7 +22,7 @@ use Rattle.calendar.specs.Calendar.{Format, format_of, RuleItem}
 use Rattle.sink.specs.Sink.{Put}
 use Rattle.sink.specs.laws.Sink.{put_no}
 use Rattle.source.specs.Source.{rest, spell}
-use Rattle.source.specs.declared.Step.{Step}
+use Rattle.source.specs.declared.points.Unit.{Unit}
 use Rattle.times.specs.Date.{read_date, write_date}
 use Rattle.times.specs.DateAlong.{day_of}
 use Rattle.times.specs.DateTime.{read_date_time, write_date_time}
@@ -62,7 +62,7 @@ module _ (g f : Format) (s : List ℕ) {d e : List ℕ} {o r : ℕ} where
 
 -- ---- numbers, as they are put
 
-module _ {l : Bool} {m : ℕ} {s : List ℕ} {c : ℕ} {r : Step} (p : Fronts l m s c r) where
+module _ {l : Bool} {m : ℕ} {s : List ℕ} {c : ℕ} {r : Unit} (p : Fronts l m s c r) where
   pub minus_is : eqb r.u 45 ≡ has_minus (front l (rest m s c))
   unfolding has_minus spell pick
   minus_is = rw p.is (go (eqb r.u 256) refl)
@@ -84,7 +84,7 @@ module _ {d e : List ℕ} {o r : ℕ} (f : Bool) (l : List ℕ) where
   pub put_raised : f ≡ false → Put d e o r (upper l) → Put d e o r (in_capitals (format_of f) l)
   put_raised h w = rw h w
 
-module _ {d e : List ℕ} {o q : ℕ} {m : ℕ} {s : List ℕ} {c : ℕ} {r : Step} (p : Fronts true m s c r) where
+module _ {d e : List ℕ} {o q : ℕ} {m : ℕ} {s : List ℕ} {c : ℕ} {r : Unit} (p : Fronts true m s c r) where
   pub put_no_ordinal : r.u ≡ 256 → Put d e o q [] → Put d e o q (shown_ordinal (up_to is_alpha (rest m s c)))
   unfolding pick
   put_no_ordinal h w = rw (fronts_end p h) w

@@ -22,7 +22,7 @@ use Rattle.octets.specs.Front.{from_on, past}
 use Rattle.calendar.specs.Calendar.{ical, RulePart}
 use Rattle.source.specs.Source.{rest, cuts, Reads}
 use Rattle.source.specs.laws.Facts.{rest_byte, rest_end, rest_past}
-use Rattle.source.specs.declared.Step.{Step}
+use Rattle.source.specs.declared.points.Unit.{Unit}
 use Rattle.names.specs.Packing.{agree, packing_compute}
 use Rattle.names.specs.Table.{place_of, nth}
 use Rattle.names.specs.laws.Table.{row_place, one_of_place}
@@ -63,7 +63,7 @@ pub name_found : (m : ℕ) (s : List ℕ) (c e : ℕ) {n : ℕ} → Ends 61 m s 
 unfolding place_at
 name_found m s c e d h = h ∙ rw (piece_is d)
 
-module _ {m : ℕ} {s : List ℕ} {c e : ℕ} {n : Step} (d : Ends 61 m s c e) (q : Reads m s e n) where
+module _ {m : ℕ} {s : List ℕ} {c e : ℕ} {n : Unit} (d : Ends 61 m s c e) (q : Reads m s e n) where
   pub value_none : n.u ≡ 256 → past is_equals (rest m s c) ≡ rest m s e
   value_none h = past_from is_equals (rest m s c) ∙ rw (← d.left, rest_end q h)
 

@@ -7,10 +7,10 @@
 --     rest_past                 past the end nothing stands;   reach_end: the end is reached from the start
 --     rest_cut, cut_is          what stands from a cursor on, cut in two at a cursor that is reached from it
 --     folded_byte, folded_end   the step over a text with its folds
---     caret_other, caret_end, caret_letter, caret_itself, caret_last    the step over carets;   decodes_as: the encoding of a value in an edition
-use Rattle.std.specs.Prelude.{◌≡◌, refl, Bool, true, false, List, [], ◌∷◌, ℕ, zero, suc, ◌+◌, ◌-◌, ◌/◌, ◌^◌, max, ◌≤◌, ◌<◌, eqb, ltb, length, take, drop, get_or}
+--     caret_other, caret_letter, caret_itself, caret_last    the step over carets;   decodes_as: the encoding of a value in an edition
+use Rattle.std.specs.Prelude.{◌≡◌, refl, Bool, true, false, List, [], ◌∷◌, ℕ, zero, suc, ◌+◌, ◌-◌, ◌/◌, ◌^◌, max, ◌≤◌, ◌<◌, eqb, ltb, length, take, drop, get_or, Option, None, Some}
 use Rattle.std.proofs.Common.{sym, ap, ◌∙◌, arith, length-drop, drop_of_length-le, take-append-drop, drop-drop, rules, eq-eqb, ne_eqb, ltb-true, ltb-false}
-use Rattle.std.proofs.lemmas.Bool.{false≢true}
+use Rattle.std.proofs.lemmas.Bool.{false≢true, eqb-true, eqb-false}
 use Rattle.std.proofs.lemmas.List.{append_cancel_right}
 use Rattle.std.proofs.Math.Seq.{take-nil, drop-nil}
 use Rattle.octets.specs.Pick.{pick}
@@ -23,8 +23,9 @@ use Rattle.edition.specs.Edition.{is_letter, meant, decoding, decode}
 use Rattle.edition.specs.laws.Carets.{decoded_other, decoded_last, decoded_letter, decoded_caret}
 use Rattle.edition.specs.declared.Edition.{Edition}
 use Rattle.edition.specs.declared.Edition.TheVariants.{Rfc5545, Rfc6868}
-use Rattle.source.specs.Source.{rest, spell, cuts, skipping, Reach, Reads, Settled, Over, Decodes}
-use Rattle.source.specs.declared.Step.{Step}
+use Rattle.source.specs.Source.{rest, spell, cuts, cut_of, over, skipping, Reach, Reads, Settled, Over, Decodes}
+use Rattle.source.specs.declared.points.Unit.{Unit}
+use Rattle.source.specs.declared.Cut.TheVariants.{Plain, Folded}
 
 pub spell_byte : (u : ℕ) (r : List ℕ) → (u ≡ 256 → ⊥) → spell u r ≡ u ∷ r
 unfolding spell pick
@@ -34,7 +35,18 @@ pub spell_end : (u : ℕ) (r : List ℕ) → u ≡ 256 → spell u r ≡ []
 unfolding spell pick
 spell_end u r h = rw (eq-eqb u 256 h)
 
-module _ {m : ℕ} {s : List ℕ} {c : ℕ} {r : Step} (p : Reads m s c r) where
+sub_self : (c : ℕ) → c - c ≡ 0
+sub_self c = omega arith
+
+pub reach_here : (m : ℕ) (s : List ℕ) (c : ℕ) → Reach m s c c
+unfolding skipping pick
+reach_here m s c = record { whole = go (eqb m 2) }
+  where
+    go : (t : Bool) → pick t (skip_after (drop c s) 0 (c - c)) 0 ≡ 0
+    go true = rw (sub_self c) (skip_none (drop c s) 0)
+    go false = refl
+
+module _ {m : ℕ} {s : List ℕ} {c : ℕ} {r : Unit} (p : Reads m s c r) where
   pub rest_byte : (r.u ≡ 256 → ⊥) → rest m s c ≡ r.u ∷ rest m s r.next
   rest_byte h = p.is ∙ spell_byte r.u (rest m s r.next) h
 
@@ -47,18 +59,18 @@ module _ {m : ℕ} {s : List ℕ} {c : ℕ} {r : Step} (p : Reads m s c r) where
   pub rest_end : r.u ≡ 256 → rest m s c ≡ []
   rest_end h = p.is ∙ spell_end r.u (rest m s r.next) h
 
+  -- where nothing is left, the cursor may stay
+  pub stays : r.u ≡ 256 → c < 2 ^ 64 → Reads m s c (record { u = 256; next = c })
+  stays h f = record {
+    is = rest_end h ∙ sym (spell_end 256 (rest m s c) refl);
+    small = omega arith;
+    moved = omega arith;
+    inside = omega arith;
+    plain = λ z b. absurd (b refl);
+    reach = reach_here m s c;
+  }
+
 -- ---- cursors with whole steps between them
-
-sub_self : (c : ℕ) → c - c ≡ 0
-sub_self c = omega arith
-
-pub reach_here : (m : ℕ) (s : List ℕ) (c : ℕ) → Reach m s c c
-unfolding skipping pick
-reach_here m s c = record { whole = go (eqb m 2) }
-  where
-    go : (t : Bool) → pick t (skip_after (drop c s) 0 (c - c)) 0 ≡ 0
-    go true = rw (sub_self c) (skip_none (drop c s) 0)
-    go false = refl
 
 -- only folds are passed over
 pub reach_other : (m : ℕ) (s : List ℕ) (c e : ℕ) → eqb m 2 ≡ false → Reach m s c e
@@ -142,7 +154,7 @@ none_end m s c h g k j d e f = record {
 }
 
 -- the encoding's number was tested
-pub reads_as : {m k : ℕ} {s : List ℕ} {c : ℕ} {r : Step} → m ≡ k → Reads k s c r → Reads m s c r
+pub reads_as : {m k : ℕ} {s : List ℕ} {c : ℕ} {r : Unit} → m ≡ k → Reads k s c r → Reads m s c r
 reads_as e p = rw e p
 
 -- ---- a slice of bytes as they stand, cut at e
@@ -250,6 +262,15 @@ settled_here m s c h = record { is = refl; onward = omega arith; inside = omega 
     go (suc (suc zero)) h y e = absurd (h refl)
     go (suc (suc (suc m))) h y e = absurd (false≢true y)
 
+pub settled_plain : (s : List ℕ) (c : ℕ) → Settled 0 s c c
+settled_plain s c = settled_here 0 s c (λ h. let z : ◌≡◌ {A = ℕ} 0 2 = h in omega arith)
+
+pub settled_characters : (s : List ℕ) (c : ℕ) → Settled 1 s c c
+settled_characters s c = settled_here 1 s c (λ h. let z : ◌≡◌ {A = ℕ} 1 2 = h in omega arith)
+
+pub settled_quoted : (s : List ℕ) (c : ℕ) → Settled 3 s c c
+settled_quoted s c = settled_here 3 s c (λ h. let z : ◌≡◌ {A = ℕ} 3 2 = h in omega arith)
+
 pub settled_past : (m : ℕ) (s : List ℕ) (c : ℕ) → length s ≤ c → Settled m s c c
 settled_past m s c h = record { is = refl; onward = omega arith; inside = omega arith; reach = reach_here m s c; some_byte = λ y e. h }
 
@@ -283,7 +304,7 @@ cuts_two (suc zero) y n = absurd (false≢true y)
 cuts_two (suc (suc zero)) y n = refl
 cuts_two (suc (suc (suc m))) y n = absurd (false≢true y)
 
-meant_small : (b : ℕ) → meant b < 256
+pub meant_small : (b : ℕ) → meant b < 256
 unfolding pick
 meant_small b = go (eqb b 110) (eqb b 39)
   where
@@ -299,6 +320,39 @@ over_plain = record { decodes = λ s c. refl; uncut = refl; base = refl; unfolde
 pub over_folded : Over 2 5
 unfolding rest pick
 over_folded = record { decodes = λ s c. refl; uncut = refl; base = refl; unfolded = refl }
+
+pub over_cut : (m : ℕ) → cuts m ≡ true → Over m (over m)
+over_cut zero y = over_plain
+over_cut (suc zero) y = absurd (false≢true y)
+over_cut (suc (suc zero)) y = over_folded
+over_cut (suc (suc (suc m))) y = absurd (false≢true y)
+
+-- by the encoding that is cut
+pub cut_plain : (m : ℕ) → cut_of m ≡ Some Plain → m ≡ 0
+cut_plain zero h = refl
+cut_plain (suc zero) h = cc
+cut_plain (suc (suc zero)) h = cc
+cut_plain (suc (suc (suc m))) h = cc
+
+pub cut_folded : (m : ℕ) → cut_of m ≡ Some Folded → m ≡ 2
+cut_folded zero h = cc
+cut_folded (suc zero) h = cc
+cut_folded (suc (suc zero)) h = refl
+cut_folded (suc (suc (suc m))) h = cc
+
+pub cut_none : (m : ℕ) → cut_of m ≡ None → cuts m ≡ false
+cut_none zero h = cc
+cut_none (suc zero) h = refl
+cut_none (suc (suc zero)) h = cc
+cut_none (suc (suc (suc m))) h = refl
+
+pub settled_over : (m : ℕ) (s : List ℕ) (c : ℕ) → Settled (over m) s c c
+settled_over zero s c = settled_here 4 s c (λ h. let z : ◌≡◌ {A = ℕ} 4 2 = h in omega arith)
+settled_over (suc m) s c = settled_here 5 s c (λ h. let z : ◌≡◌ {A = ℕ} 5 2 = h in omega arith)
+
+pub cut_over : (m : ℕ) → None ≡ cut_of (over m)
+cut_over zero = refl
+cut_over (suc m) = refl
 
 -- what a value begins with, and what its decoding begins with
 other_is : (l r : List ℕ) (u : ℕ) → l ≡ u ∷ r → (u ≡ 256 → ⊥) → (u ≡ 94 → ⊥) → decoding l false ≡ spell u (decoding r false)
@@ -317,7 +371,7 @@ itself_is l r b u e h m n = rw e (decoded_caret b r h ∙ rw (← m) (sym (spell
 last_is : (l r : List ℕ) (u : ℕ) → l ≡ 94 ∷ [] → r ≡ [] → u ≡ 94 → (u ≡ 256 → ⊥) → decoding l false ≡ spell u r
 last_is l r u e f m n = rw (e, f) (decoded_last ∙ rw (← m) (sym (spell_byte u [] n)))
 
-module _ {b v : ℕ} {s : List ℕ} {c : ℕ} {r : Step} (o : Over b v) (p : Reads b s c r) where
+module _ {b v : ℕ} {s : List ℕ} {c : ℕ} {r : Unit} (o : Over b v) (p : Reads b s c r) where
   -- the same step in the encoding with carets, where it reads the same byte
   step_same : decoding (rest b s c) false ≡ spell r.u (rest v s r.next) → Reads v s c r
   step_same h = record {
@@ -329,14 +383,15 @@ module _ {b v : ℕ} {s : List ℕ} {c : ℕ} {r : Step} (o : Over b v) (p : Rea
     reach = reach_other v s c r.next o.unfolded;
   }
 
-  -- any other byte
-  pub caret_other : (r.u ≡ 256 → ⊥) → (r.u ≡ 94 → ⊥) → Reads v s c r
-  caret_other n h = step_same (other_is _ _ r.u (rest_byte p n) n h ∙ ap (spell r.u) (sym (o.decodes s r.next)))
+  -- any other byte, or the end
+  pub caret_other : (r.u ≡ 94 → ⊥) → Reads v s c r
+  caret_other h = go (eqb r.u 256) refl
+    where
+      go : (t : Bool) → eqb r.u 256 ≡ t → Reads v s c r
+      go true e = step_same (none_is _ _ r.u (rest_end p (eqb-true r.u 256 e)) (eqb-true r.u 256 e))
+      go false e = step_same (other_is _ _ r.u (rest_byte p (eqb-false r.u 256 e)) (eqb-false r.u 256 e) h ∙ ap (spell r.u) (sym (o.decodes s r.next)))
 
-  pub caret_end : r.u ≡ 256 → Reads v s c r
-  caret_end h = step_same (none_is _ _ r.u (rest_end p h) h)
-
-  module _ (h : r.u ≡ 94) {t : Step} (q : Reads b s r.next t) where
+  module _ (h : r.u ≡ 94) {t : Unit} (q : Reads b s r.next t) where
     caret_byte : r.u ≡ 256 → ⊥
     caret_byte e = let z : ◌≡◌ {A = ℕ} 94 256 = sym h ∙ e in omega arith
 
@@ -384,7 +439,11 @@ pub decodes_folded : Decodes Rfc6868 2 5
 unfolding decode
 decodes_folded = record { is = over_folded.decodes }
 
-pub decodes_as : {e : Edition} {m k v : ℕ} → m ≡ k → Decodes e k v → Decodes e m v
-decodes_as q p = rw q p
+pub decodes_over : (m : ℕ) → cuts m ≡ true → Decodes Rfc6868 m (over m)
+unfolding decode
+decodes_over m y = record { is = (over_cut m y).decodes }
+
+pub decodes_when : {e k : Edition} {m v : ℕ} → e ≡ k → Decodes k m v → Decodes e m v
+decodes_when q p = rw q p
 
 pub ruleset stepping = (plain_byte, plain_end, none_end, folded_byte, folded_end, folded_past, reads_as, rules)

@@ -17,7 +17,7 @@ use Rattle.utf8.specs.laws.SpellAt.{spelled_two, spelled_three, spelled_four}
 use Rattle.source.specs.Source.{rest, Reads}
 use Rattle.source.specs.laws.Facts.{spell_byte, spell_end, reach_other}
 use Rattle.source.specs.Stepping.{Apart, Inner, Named, Found, Left}
-use Rattle.source.specs.declared.Step.{Step}
+use Rattle.source.specs.declared.points.Unit.{Unit}
 
 -- the bytes of a code point are one to four, and one alone only in ASCII
 pub spelled_some : (v : ℕ) → 1 ≤ length (spelled v)
@@ -102,7 +102,7 @@ module _ {m : ℕ} {s : List ℕ} {p u n : ℕ} (o : Apart m) (f : Named m s p u
     reach = reach_other m s _ _ o.unfolded;
   }
 
-  pub point_step : {t : Step} (c : ℕ) → c ≡ 2 * p → 256 < u → Left m s p (u - 257) n 0 t → Reads m s c t
+  pub point_step : {t : Unit} (c : ℕ) → c ≡ 2 * p → 256 < u → Left m s p (u - 257) n 0 t → Reads m s c t
   point_step {t} c e h g = record {
     is = rw e (f.point h ∙ sym (pick_yes (ltb 0 (length (spelled (u - 257)))) (spelled (u - 257) ⊕ rest m s (2 * n)) [] (lt-ltb 0 (length (spelled (u - 257))) (spelled_some (u - 257)))) ∙ g.is);
     small = g.small;
@@ -125,7 +125,7 @@ module _ {m : ℕ} {s : List ℕ} {p u n q : ℕ} (o : Apart m) (f : Found m s p
     reach = reach_other m s _ _ o.unfolded;
   }
 
-  pub within_step : {t : Step} (c : ℕ) → c ≡ 2 * q + 1 → p ≤ q → 256 < u → Left m s p (u - 257) n (q - p + 1) t → Reads m s c t
+  pub within_step : {t : Unit} (c : ℕ) → c ≡ 2 * q + 1 → p ≤ q → 256 < u → Left m s p (u - 257) n (q - p + 1) t → Reads m s c t
   within_step {t} c e l h g = record {
     is = rw e (f.left h ∙ g.is);
     small = g.small;

@@ -4,7 +4,7 @@ use Rattle.xml.specs.laws.Escape.{escaped-each}
 use Rattle.tags.proofs.put_escaped.Goals as goal
 
 pub returns-then-t-eq-END : goal.returns-then-t-eq-END
-returns-then-t-eq-END c = rw escaped-each (search copying)
+returns-then-t-eq-END g c = rw escaped-each (search copying)
 
 pub loop-t-preserved : goal.loop-t-preserved
-loop-t-preserved c = search copying
+loop-t-preserved g c = search copying

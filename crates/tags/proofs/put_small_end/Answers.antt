@@ -3,4 +3,4 @@ use Rattle.sink.specs.laws.Sink.{writing}
 use Rattle.tags.proofs.put_small_end.Goals as goal
 
 pub returns : goal.returns
-returns c = search writing
+returns g c = search writing

@@ -17,7 +17,7 @@ use Rattle.octets.specs.Runs.{run_of}
 use Rattle.octets.specs.laws.Runs.{byte_case}
 use Rattle.octets.specs.Many.{All, ok, no}
 use Rattle.source.specs.Source.{rest, spell, Reads}
-use Rattle.source.specs.declared.Step.{Step}
+use Rattle.source.specs.declared.points.Unit.{Unit}
 use Rattle.read_text_line.specs.LineEnd.{LineEnds, EndsLine}
 use Rattle.read_text_line.specs.laws.LineEnd.{line_first}
 use Rattle.read_text_line.specs.Ready.{Ready}
@@ -84,7 +84,7 @@ content_aside l h = pick_either (λ (o : Option ContentLine). is_aside (entry_by
 -- ---- for code
 
 -- by the byte that was found there
-pub opens_not : {mode : ℕ} {s : List ℕ} {at : ℕ} {n : Step} {t : Bool} → Reads mode s at n → t ≡ opens_bound n.u → t ≡ false → opens (rest mode s at) ≡ false
+pub opens_not : {mode : ℕ} {s : List ℕ} {at : ℕ} {n : Unit} {t : Bool} → Reads mode s at n → t ≡ opens_bound n.u → t ≡ false → opens (rest mode s at) ≡ false
 unfolding spell
 opens_not {mode} {s} {at} {n} p q h = rw p.is (go (eqb n.u 256))
   where

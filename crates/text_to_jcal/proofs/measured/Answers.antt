@@ -18,12 +18,6 @@ slice_bounds-put_jcal-end c = search writing
 pub slice_bounds-put_jcal-end-2 : goal.slice_bounds-put_jcal-end-2
 slice_bounds-put_jcal-end-2 c = search writing
 
-pub put_jcal-need-requires : goal.put_jcal-need-requires
-put_jcal-need-requires c = refl
-
-pub put_jcal-requires : goal.put_jcal-requires
-put_jcal-requires c = refl
-
 pub shape_of-out-then-need-out : goal.shape_of-out-then-need-out
 shape_of-out-then-need-out c = search writing
 

@@ -7,19 +7,19 @@ use Rattle.text_to_xml.specs.laws.Steps.{xml_counted}
 use Rattle.text_to_xml.proofs.measured.Goals as goal
 
 pub slice_bounds-put_document-end : goal.slice_bounds-put_document-end
-slice_bounds-put_document-end c = search writing
+slice_bounds-put_document-end g c = let cut = g.met.E.Cuttable.cut in search writing
 
 pub slice_bounds-put_document-end-2 : goal.slice_bounds-put_document-end-2
-slice_bounds-put_document-end-2 c = search writing
+slice_bounds-put_document-end-2 g c = let cut = g.met.E.Cuttable.cut in search writing
 
 pub shape_of-out-then-need-out : goal.shape_of-out-then-need-out
-shape_of-out-then-need-out c = search writing
+shape_of-out-then-need-out g c = let cut = g.met.E.Cuttable.cut in search writing
 
 pub returns-then-need-out : goal.returns-then-need-out
-returns-then-need-out c = done_written (xml_counted _ _ _ c.requires.0 c.requires.1) c.put_document-need.ensures (omega (arith, c.if-need-out.true)) c.put_document.ensures
+returns-then-need-out g c = done_written (xml_counted _ _ _ g.met.E.Cuttable.cut c.requires) c.put_document-need.ensures (omega (arith, c.if-need-out.true)) c.put_document.ensures
 
 pub shape_of-out : goal.shape_of-out
-shape_of-out c = search writing
+shape_of-out g c = let cut = g.met.E.Cuttable.cut in search writing
 
 pub returns : goal.returns
-returns c = done_room (xml_counted _ _ _ c.requires.0 c.requires.1) c.put_document-need.ensures (omega (arith, c.if-need-out.false))
+returns g c = done_room (xml_counted _ _ _ g.met.E.Cuttable.cut c.requires) c.put_document-need.ensures (omega (arith, c.if-need-out.false))

@@ -13,7 +13,7 @@ pub slice_bounds-written-end-in-Ok : goal.slice_bounds-written-end-in-Ok
 slice_bounds-written-end-in-Ok c = sym (length-take-le _ _ (subst (Reads _ _ _ _) c.in-Ok.is c.read_whole.ensures.0).inside)
 
 pub written-requires : goal.written-requires
-written-requires c = (refl, (subst (Reads _ _ _ _) c.in-Ok.is c.read_whole.ensures.0).short)
+written-requires c = (subst (Reads _ _ _ _) c.in-Ok.is c.read_whole.ensures.0).short
 
 pub returns-in-Ok : goal.returns-in-Ok
 returns-in-Ok c = whole_kept c.args.input.now c.args.work.now c.args.out.now c.args.edition c.in-Ok.kept (subst (Reads _ _ _ _) c.in-Ok.is c.read_whole.ensures.0) c.read_whole.ensures.1 c.written.ensures

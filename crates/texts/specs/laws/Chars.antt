@@ -12,7 +12,7 @@ use Rattle.sink.specs.Sink.{Put, Todo}
 use Rattle.sink.specs.laws.Sink.{put_none, todo_step, todo_done, each, writing}
 use Rattle.source.specs.Source.{rest, Reads}
 use Rattle.source.specs.laws.Facts.{rest_byte, rest_end}
-use Rattle.source.specs.declared.Step.{Step}
+use Rattle.source.specs.declared.points.Unit.{Unit}
 use Rattle.xml.specs.Escape.{escaped}
 use Rattle.texts.specs.Binary.{binary_chars}
 use Rattle.texts.specs.laws.Kept.{passed, kept, none_left}
@@ -49,7 +49,7 @@ pub ruleset writing_kept = (put_kept, put_kept_xml, put_unkept, put_unkept_xml, 
 
 -- ---- BINARY without white space
 
-module _ {d₀ : List ℕ} {at₀ : ℕ} {all d : List ℕ} {at : ℕ} {m : ℕ} {s : List ℕ} {c : ℕ} {r : Step} (x : Bool)
+module _ {d₀ : List ℕ} {at₀ : ℕ} {all d : List ℕ} {at : ℕ} {m : ℕ} {s : List ℕ} {c : ℕ} {r : Unit} (x : Bool)
     (w : Todo d₀ at₀ all d at (binary_chars (format_of x) (rest m s c))) (p : Reads m s c r) where
   pub base64_pass : {t : Bool} → (r.u ≡ 256 → ⊥) → t ≡ (x and is_space r.u) → t ≡ true → Todo d₀ at₀ all d at (binary_chars (format_of x) (rest m s r.next))
   base64_pass h k l = rw (← (passed x r.u (rest m s r.next) (sym k ∙ l)), ← (rest_byte p h)) w

@@ -13,7 +13,7 @@ use Rattle.octets.specs.laws.Scan.{take_least}
 use Rattle.sink.specs.Sink.{Put, Todo}
 use Rattle.sink.specs.laws.Sink.{put_none, put_length, todo_all, todo_step, todo_done, writing}
 use Rattle.source.specs.Source.{rest, cuts, Reads}
-use Rattle.source.specs.declared.Step.{Step}
+use Rattle.source.specs.declared.points.Unit.{Unit}
 use Rattle.xml.specs.Escape.{escaped, element_of}
 use Rattle.texts.specs.Text.{read_text}
 use Rattle.texts.specs.TextList.{read_texts}
@@ -45,7 +45,7 @@ pub record Listing (d₀ : List ℕ) (at₀ m : ℕ) (s : List ℕ) (c₀ : ℕ)
 pub listing_start : (d : List ℕ) (at m : ℕ) (s : List ℕ) (c : ℕ) → length d * 1 < 2 ^ 63 → cuts m ≡ true → is_read (read_texts (rest m s c)) ≡ true → Listing d at m s c d at c
 listing_start d at m s c z y h = record { cut = y; read = h; todo = todo_all d at (or_nothing texts_xml (read_texts (rest m s c))) z; kept = refl }
 
-module _ {d₀ : List ℕ} {at₀ m : ℕ} {s : List ℕ} {c₀ : ℕ} {d : List ℕ} {at c e : ℕ} {n : Step} {d' : List ℕ} {o : ℕ} (t : Listing d₀ at₀ m s c₀ d at c) (i : ItemEnds 44 m s c e)
+module _ {d₀ : List ℕ} {at₀ m : ℕ} {s : List ℕ} {c₀ : ℕ} {d : List ℕ} {at c e : ℕ} {n : Unit} {d' : List ℕ} {o : ℕ} (t : Listing d₀ at₀ m s c₀ d at c) (i : ItemEnds 44 m s c e)
     (w : Put d d' at o (element_of (ascii "text") (or_nothing escaped (read_text (rest m (take e s) c))))) (p : Reads m s e n) where
   pub listing_more : (n.u ≡ 256 → ⊥) → Listing d₀ at₀ m s c₀ d' o n.next
   unfolding ◌⊕◌

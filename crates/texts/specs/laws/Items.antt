@@ -12,7 +12,7 @@ use Rattle.octets.specs.Words.{onto}
 use Rattle.octets.specs.Reading.{and_then, cons_read}
 use Rattle.source.specs.Source.{rest, cuts, Reach, Reads}
 use Rattle.source.specs.laws.Facts.{rest_byte, rest_end, byte_small, cut_is, reach_here, reach_on}
-use Rattle.source.specs.declared.Step.{Step}
+use Rattle.source.specs.declared.points.Unit.{Unit}
 use Rattle.texts.specs.Text.{Sign, char, opening, separator, fault, is_break, bare_sign, sign_of, opens, onto_read, with_sign, split_from, split_text, read_text}
 use Rattle.texts.specs.laws.Text.{text_sign, text_from, text_step}
 use Rattle.texts.specs.laws.Unescaped.{is_separator, separator_none}
@@ -99,7 +99,7 @@ pub item_first : (sep m : ℕ) (s : List ℕ) (c r : ℕ) → cuts m ≡ true �
     split_text sep (rest m s c) ≡ and_then (read_text (rest m (take r s) c)) (λ p. cons_read p (pieces_behind sep (rest m s r)))
 item_first sep m s c r y p = rw (item_cut sep m s c r y p, p.left) (split_item (rest m s c) false sep)
 
-module _ {sep m : ℕ} {s : List ℕ} {c r : ℕ} {n : Step} (y : cuts m ≡ true) (p : ItemEnds sep m s c r) (q : Reads m s r n) where
+module _ {sep m : ℕ} {s : List ℕ} {c r : ℕ} {n : Unit} (y : cuts m ≡ true) (p : ItemEnds sep m s c r) (q : Reads m s r n) where
   pub item_last : n.u ≡ 256 → split_text sep (rest m s c) ≡ and_then (read_text (rest m (take r s) c)) (λ p. Some (p ∷ []))
   unfolding cons_read
   item_last h = item_first sep m s c r y p ∙ rw (rest_end q h)
@@ -119,7 +119,7 @@ pub record Walking (sep m : ℕ) (s : List ℕ) (c₀ : ℕ) (after : Bool) (c :
 pub walk_start : (sep m : ℕ) (s : List ℕ) (c : ℕ) → Walking sep m s c false c
 walk_start sep m s c = record { left = refl; onward = omega arith; inside = omega arith; plain = λ z h. h; reach = reach_here m s c }
 
-module _ {sep m : ℕ} {s : List ℕ} {c₀ : ℕ} {after : Bool} {c : ℕ} {n : Step} (w : Walking sep m s c₀ after c) (p : Reads m s c n) where
+module _ {sep m : ℕ} {s : List ℕ} {c₀ : ℕ} {after : Bool} {c : ℕ} {n : Unit} (w : Walking sep m s c₀ after c) (p : Reads m s c n) where
   pub walk_more : {t after' : Bool} → (n.u ≡ 256 → ⊥) → t ≡ is_between after sep n.u → t ≡ false → after' ≡ opens after n.u → Walking sep m s c₀ after' n.next
   unfolding behind_from pick
   walk_more h k l q =

@@ -15,13 +15,13 @@ use Rattle.octets.specs.Words.{holds}
 use Rattle.calendar.specs.Calendar.{format_of}
 use Rattle.source.specs.Source.{rest, Reads}
 use Rattle.source.specs.laws.Facts.{rest_byte, rest_end}
-use Rattle.source.specs.declared.Step.{Step}
+use Rattle.source.specs.declared.points.Unit.{Unit}
 use Rattle.texts.specs.Unknown.{is_unknown}
 use Rattle.texts.specs.Uri.{in_uri, uri_from, is_uri}
 use Rattle.texts.specs.Binary.{is_base64_char, pad_fits, in_group, next_place, binary_from, without_space, binary_chars}
 
 -- a value that a reader's loop has yet to test: v is what it is to answer
-module _ {v : Bool} {m : ℕ} {s : List ℕ} {c : ℕ} {r : Step} (p : Reads m s c r) where
+module _ {v : Bool} {m : ℕ} {s : List ℕ} {c : ℕ} {r : Unit} (p : Reads m s c r) where
   -- ---- unknown
 
   pub unknown_more : v ≡ is_unknown (rest m s c) → (r.u ≡ 256 → ⊥) → (r.u ≡ 10 → ⊥) → v ≡ is_unknown (rest m s r.next)
@@ -56,7 +56,7 @@ alpha_byte : (u : ℕ) → is_alpha u ≡ true → u ≡ 256 → ⊥
 unfolding ◌or◌ ◌and◌
 alpha_byte u h e = let z : is_alpha 256 ≡ true = rw e at h in false≢true z
 
-module _ {m : ℕ} {s : List ℕ} {c : ℕ} {r : Step} (p : Reads m s c r) where
+module _ {m : ℕ} {s : List ℕ} {c : ℕ} {r : Unit} (p : Reads m s c r) where
   pub uri_first : {a t : Bool} → t ≡ is_alpha r.u → t ≡ true → a ≡ uri_from false (rest m s r.next) → a ≡ is_uri (rest m s c)
   unfolding is_uri ◌and◌
   uri_first k l e = e ∙ sym (rw (rest_byte p (alpha_byte r.u (sym k ∙ l)), ← k, l))
@@ -86,7 +86,7 @@ unfolding without_space
 none_left true = refl
 none_left false = refl
 
-module _ {v : Bool} {m : ℕ} {s : List ℕ} {c : ℕ} {r : Step} (p : Reads m s c r) (x : Bool) (n last : ℕ) where
+module _ {v : Bool} {m : ℕ} {s : List ℕ} {c : ℕ} {r : Unit} (p : Reads m s c r) (x : Bool) (n last : ℕ) where
   pub binary_pass : {t : Bool} → v ≡ binary_from n last (binary_chars (format_of x) (rest m s c)) → (r.u ≡ 256 → ⊥) → t ≡ (x and is_space r.u) → t ≡ true →
       v ≡ binary_from n last (binary_chars (format_of x) (rest m s r.next))
   binary_pass e h k l = e ∙ rw (rest_byte p h) (ap (binary_from n last) (passed x r.u _ (sym k ∙ l)))

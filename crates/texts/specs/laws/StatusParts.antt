@@ -10,7 +10,7 @@ use Rattle.octets.specs.Reading.{and_then, is_read, cons_read}
 use Rattle.octets.specs.laws.Reading.{and_then-some, cons_read-some}
 use Rattle.source.specs.Source.{rest, spell, Reads}
 use Rattle.source.specs.laws.Facts.{rest_byte, rest_end}
-use Rattle.source.specs.declared.Step.{Step}
+use Rattle.source.specs.declared.points.Unit.{Unit}
 use Rattle.texts.specs.Text.{split_text}
 use Rattle.texts.specs.laws.Text.{text_from, split_some}
 use Rattle.texts.specs.RequestStatus.{status_of, read_request_status}
@@ -77,11 +77,11 @@ status_is s = go (split_text 59 s) refl
 
 -- ---- laws of the code
 
-module _ {m : ℕ} {s : List ℕ} {b : ℕ} {n : Step} (p : Reads m s b n) where
+module _ {m : ℕ} {s : List ℕ} {b : ℕ} {n : Unit} (p : Reads m s b n) where
   pub soon_now : n.u ≡ 256 → true ≡ soon_over (rest m s b)
   soon_now h = rw (rest_end p h)
 
-  pub soon_last : {e : ℕ} {w : Step} → (n.u ≡ 256 → ⊥) → ItemEnds 59 m s n.next e → Reads m s e w → eqb w.u 256 ≡ soon_over (rest m s b)
+  pub soon_last : {e : ℕ} {w : Unit} → (n.u ≡ 256 → ⊥) → ItemEnds 59 m s n.next e → Reads m s e w → eqb w.u 256 ≡ soon_over (rest m s b)
   unfolding spell pick
   soon_last {e} {w} h i q = rw (rest_byte p h, ← i.left, q.is) (go (eqb w.u 256))
     where
@@ -91,7 +91,7 @@ module _ {m : ℕ} {s : List ℕ} {b : ℕ} {n : Step} (p : Reads m s b n) where
 
 pub ruleset ending_soon = (soon_now, soon_last, rules)
 
-module _ {m : ℕ} {s : List ℕ} {c a : ℕ} {n : Step} (i : ItemEnds 59 m s c a) (p : Reads m s a n) where
+module _ {m : ℕ} {s : List ℕ} {c a : ℕ} {n : Unit} (i : ItemEnds 59 m s c a) (p : Reads m s a n) where
   pub parts_none : n.u ≡ 256 → PartsFound m s c None
   parts_none h = record { is = rw (← i.left, rest_end p h); parts = tt }
 

@@ -16,7 +16,7 @@ use Rattle.sink.specs.Sink.{Put}
 use Rattle.sink.specs.laws.Sink.{put_none}
 use Rattle.source.specs.Source.{rest, cuts, Reads}
 use Rattle.source.specs.laws.Facts.{rest_byte, rest_end}
-use Rattle.source.specs.declared.Step.{Step}
+use Rattle.source.specs.declared.points.Unit.{Unit}
 use Rattle.xml.specs.Escape.{escaped, element_of}
 use Rattle.texts.specs.Text.{split_text, read_text}
 use Rattle.texts.specs.laws.Text.{split_some, text_from}
@@ -100,7 +100,7 @@ module _ {d₀ : List ℕ} {at m : ℕ} {s : List ℕ} {c : ℕ} {r : Option Sta
       go None x = put_none d₀ at z
       go (Some v) x = absurd (false≢true x)
 
-module _ {d₀ : List ℕ} {at m : ℕ} {s : List ℕ} {b : ℕ} {n : Step} (p : Reads m s b n) where
+module _ {d₀ : List ℕ} {at m : ℕ} {s : List ℕ} {b : ℕ} {n : Unit} (p : Reads m s b n) where
   pub put_no_data : n.u ≡ 256 → length d₀ * 1 < 2 ^ 63 → Put d₀ d₀ at at (data_behind (rest m s b))
   put_no_data h z = rw (rest_end p h) (put_none d₀ at z)
 

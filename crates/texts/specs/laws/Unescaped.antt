@@ -12,7 +12,7 @@ use Rattle.octets.specs.laws.Pick.{and_both}
 use Rattle.octets.specs.Reading.{is_read, cons_read}
 use Rattle.source.specs.Source.{rest, Reads}
 use Rattle.source.specs.laws.Facts.{rest_byte, rest_end}
-use Rattle.source.specs.declared.Step.{Step}
+use Rattle.source.specs.declared.points.Unit.{Unit}
 use Rattle.texts.specs.Text.{Sign, char, opening, separator, fault, is_break, is_escaped, sign_of, opens, with_sign, split_from, split_text, read_text, onto_read}
 use Rattle.texts.specs.laws.Text.{text_sign, text_from, text_end, text_step}
 use Rattle.texts.specs.Unescaped.{is_newline, in_text, is_split, meant, unescaped}
@@ -130,7 +130,7 @@ unfolding pick
 not_is true = refl
 not_is false = refl
 
-module _ {v : Bool} {m : ℕ} {s : List ℕ} {c : ℕ} {r : Step} (p : Reads m s c r) (after : Bool) (sep : ℕ) where
+module _ {v : Bool} {m : ℕ} {s : List ℕ} {c : ℕ} {r : Unit} (p : Reads m s c r) (after : Bool) (sep : ℕ) where
   pub text_more : {t after' : Bool} → v ≡ is_split after sep (rest m s c) → (r.u ≡ 256 → ⊥) → t ≡ in_text after sep r.u → t ≡ true → after' ≡ opens after r.u →
       v ≡ is_split after' sep (rest m s r.next)
   unfolding is_split ◌and◌

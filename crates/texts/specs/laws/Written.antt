@@ -13,7 +13,7 @@ use Rattle.sink.specs.Sink.{Put, Todo}
 use Rattle.sink.specs.laws.Sink.{put_none, ◌▷◌, todo_step, todo_done, each, writing}
 use Rattle.source.specs.Source.{rest, Reads}
 use Rattle.source.specs.laws.Facts.{rest_byte, rest_end}
-use Rattle.source.specs.declared.Step.{Step}
+use Rattle.source.specs.declared.points.Unit.{Unit}
 use Rattle.xml.specs.Escape.{escaped_byte, escaped}
 use Rattle.texts.specs.Text.{opens, read_text, escape_text, write_text}
 use Rattle.texts.specs.Unescaped.{meant, unescaped}
@@ -29,7 +29,7 @@ unescaped_char : (after : Bool) (b : ℕ) (l : List ℕ) → opens after b ≡ f
 unfolding unescaped pick
 unescaped_char after b l h = rw h
 
-module _ {d₀ : List ℕ} {at₀ : ℕ} {all d : List ℕ} {at : ℕ} {m : ℕ} {s : List ℕ} {c : ℕ} {r : Step} (after : Bool)
+module _ {d₀ : List ℕ} {at₀ : ℕ} {all d : List ℕ} {at : ℕ} {m : ℕ} {s : List ℕ} {c : ℕ} {r : Unit} (after : Bool)
     (w : Todo d₀ at₀ all d at (escaped (unescaped after (rest m s c)))) (p : Reads m s c r) where
   pub xml_open : {t : Bool} → (r.u ≡ 256 → ⊥) → t ≡ opens after r.u → t ≡ true → Todo d₀ at₀ all d at (escaped (unescaped true (rest m s r.next)))
   xml_open h k l = rw (← (unescaped_open after r.u (rest m s r.next) (sym k ∙ l)), ← (rest_byte p h)) w

@@ -17,7 +17,7 @@ use Rattle.octets.specs.laws.Reading.{none-some}
 use Rattle.calendar.specs.Calendar.{format_of}
 use Rattle.source.specs.Source.{rest, spell}
 use Rattle.source.specs.laws.Facts.{spell_byte, spell_end}
-use Rattle.source.specs.declared.Step.{Step}
+use Rattle.source.specs.declared.points.Unit.{Unit}
 use Rattle.sink.specs.Sink.{Put, Todo}
 use Rattle.sink.specs.laws.Sink.{todo_step, todo_done, writing}
 use Rattle.times.specs.Spelling.{keep, begins}
@@ -56,7 +56,7 @@ module _ {e : Bool} {m : ℕ} {s : List ℕ} {at : ℕ} where
   unfolding ◌or◌
   run_start = record { some_digit = refl; left = refl }
 
-  module _ {any : Bool} {c : ℕ} {a : Step} (f : Running e m s at any c) (p : Spells e m s c a) where
+  module _ {any : Bool} {c : ℕ} {a : Unit} (f : Running e m s at any c) (p : Spells e m s c a) where
     pub run_more : is_digit a.u ≡ true → Running e m s at true a.next
     unfolding ◌or◌
     run_more h =
@@ -76,7 +76,7 @@ module _ {e : Bool} {m : ℕ} {s : List ℕ} {at : ℕ} where
     unfolding is_read
     run_done h y = record {
       some_digit = so_far h ∙ y;
-      is = λ b q. f.left ∙ rw (none_left h) (p.is ∙ ap (λ (x : Step). spell x.u (cased e (rest m s x.next))) cc);
+      is = λ b q. f.left ∙ rw (none_left h) (p.is ∙ ap (λ (x : Unit). spell x.u (cased e (rest m s x.next))) cc);
     }
 
     pub run_none : is_digit a.u ≡ false → any ≡ false → Runs e m s at None
@@ -84,7 +84,7 @@ module _ {e : Bool} {m : ℕ} {s : List ℕ} {at : ℕ} where
     run_none h y = record { some_digit = so_far h ∙ y; is = λ b q. none-some q }
 
 -- a turn moves on
-pub run_less : {e : Bool} {m : ℕ} {s : List ℕ} {c : ℕ} {a : Step} → Spells e m s c a → is_digit a.u ≡ true → 4 * length s - a.next < 4 * length s - c
+pub run_less : {e : Bool} {m : ℕ} {s : List ℕ} {c : ℕ} {a : Unit} → Spells e m s c a → is_digit a.u ≡ true → 4 * length s - a.next < 4 * length s - c
 run_less {e} {m} {s} {c} {a} p h = omega (arith, leb-true a.u 57 (and_both _ _ h).1, p.moved, p.inside)
 
 pub ruleset running = (run_start, run_more, run_done, run_none, flag_yes, flag_no, rules)
@@ -100,16 +100,16 @@ begins-spell k u rule r h = go (eqb u 256) refl
     go false e = refl
 
 module _ (k : ℕ) (rule : List ℕ → Bool) {e : Bool} {m : ℕ} {s : List ℕ} {c : ℕ} where
-  module _ {r : Option Step} (p : Runs e m s c r) where
-    found : {a : Step} → r ≡ Some a → ltb k 256 ≡ true → counted k rule (cased e (rest m s c)) ≡ (eqb a.u k and rule (cased e (rest m s a.next)))
+  module _ {r : Option Unit} (p : Runs e m s c r) where
+    found : {a : Unit} → r ≡ Some a → ltb k 256 ≡ true → counted k rule (cased e (rest m s c)) ≡ (eqb a.u k and rule (cased e (rest m s a.next)))
     unfolding counted is_read ◌and◌
     found {a} h l = rw (p.some_digit, h, p.is a h) (begins-spell k a.u rule (cased e (rest m s a.next)) l)
 
-    pub counted_more : {a : Step} {t : Bool} → ltb k 256 ≡ true → r ≡ Some a → a.u ≡ k → t ≡ rule (cased e (rest m s a.next)) → t ≡ counted k rule (cased e (rest m s c))
+    pub counted_more : {a : Unit} {t : Bool} → ltb k 256 ≡ true → r ≡ Some a → a.u ≡ k → t ≡ rule (cased e (rest m s a.next)) → t ≡ counted k rule (cased e (rest m s c))
     unfolding ◌and◌
     counted_more {a} l h q g = g ∙ sym (found h l ∙ rw (eq-eqb a.u k q))
 
-    pub counted_other : {a : Step} → ltb k 256 ≡ true → r ≡ Some a → (a.u ≡ k → ⊥) → eqb a.u k ≡ counted k rule (cased e (rest m s c))
+    pub counted_other : {a : Unit} → ltb k 256 ≡ true → r ≡ Some a → (a.u ≡ k → ⊥) → eqb a.u k ≡ counted k rule (cased e (rest m s c))
     unfolding ◌and◌
     counted_other {a} l h q = ne_eqb a.u k q ∙ sym (found h l ∙ rw (ne_eqb a.u k q))
 
@@ -117,7 +117,7 @@ module _ (k : ℕ) (rule : List ℕ → Bool) {e : Bool} {m : ℕ} {s : List ℕ
     unfolding counted is_read ◌and◌
     counted_none h = rw (p.some_digit, h)
 
-  module _ {a : Step} (p : Spells e m s c a) where
+  module _ {a : Unit} (p : Spells e m s c a) where
     pub begins_more : {t : Bool} → ltb k 256 ≡ true → a.u ≡ k → t ≡ rule (cased e (rest m s a.next)) → t ≡ begins k rule (cased e (rest m s c))
     unfolding ◌and◌
     begins_more l q g = g ∙ sym (ap (begins k rule) p.is ∙ begins-spell k a.u rule _ l ∙ rw (eq-eqb a.u k q))
@@ -172,7 +172,7 @@ module _ (l : List ℕ) where
   unfolding duration_of is_duration keep pick ◌or◌
   plain_no h k g = rw (k, h, g)
 
-module _ {x : Bool} {m : ℕ} {s : List ℕ} {c : ℕ} {a : Step} {r : Option Duration} (p : Spells x m s c a) where
+module _ {x : Bool} {m : ℕ} {s : List ℕ} {c : ℕ} {a : Unit} {r : Option Duration} (p : Spells x m s c a) where
   pub duration_plus : a.u ≡ 43 → r ≡ span_if (unsigned_duration (cased x (rest m s a.next))) false a.next → read_duration (format_of x) (rest m s c) ≡ span_of x m s r
   unfolding pick
   duration_plus h k = of_format x (rest m s c) ∙ rw (k, p.is, spell_byte a.u (cased x (rest m s a.next)) (omega arith), h) (go (unsigned_duration (cased x (rest m s a.next))) refl)
@@ -204,7 +204,7 @@ pub ruleset spanning = (duration_plus, duration_minus, duration_plain, rules)
 
 -- ---- the writer
 
-module _ {d₀ : List ℕ} {o : ℕ} {all d : List ℕ} {p : ℕ} {e : Bool} {m : ℕ} {s : List ℕ} {c : ℕ} {a : Step} (t : Todo d₀ o all d p (cased e (rest m s c))) (w : Spells e m s c a) where
+module _ {d₀ : List ℕ} {o : ℕ} {all d : List ℕ} {p : ℕ} {e : Bool} {m : ℕ} {s : List ℕ} {c : ℕ} {a : Unit} (t : Todo d₀ o all d p (cased e (rest m s c))) (w : Spells e m s c a) where
   pub letters_more : {d' : List ℕ} {q : ℕ} → (a.u ≡ 256 → ⊥) → Put d d' p q (a.u ∷ []) → Todo d₀ o all d' q (cased e (rest m s a.next))
   letters_more h g = todo_step t g (w.is ∙ spell_byte a.u (cased e (rest m s a.next)) h)
 

@@ -7,7 +7,7 @@ use Rattle.octets.specs.laws.Pick.{flag_yes, flag_no}
 use Rattle.octets.specs.laws.Scan.{drop_next}
 use Rattle.octets.specs.Decimal.{digit_of}
 use Rattle.source.specs.Source.{rest}
-use Rattle.source.specs.declared.Step.{Step}
+use Rattle.source.specs.declared.points.Unit.{Unit}
 use Rattle.times.specs.Letters.{cased, Spells}
 use Rattle.times.specs.Pattern.{lost, passes, tally, along}
 use Rattle.times.specs.laws.Pattern.{along-spell}
@@ -38,7 +38,7 @@ module _ {p : List ℕ} {e : Bool} {m : ℕ} {s : List ℕ} {at : ℕ} where
       let g : 10 ^ i ≤ 10 ^ 18 = pow-le-pow_right {n = 10} (omega arith) b in
       omega (arith, f.small)
 
-  module _ {n c i k : ℕ} {a : Step} (f : Following p e m s at n c i) (h : i < length p) (q : k ≡ get_or p i 0) (l : k < 256) (t : Spells e m s c a) where
+  module _ {n c i k : ℕ} {a : Unit} (f : Following p e m s at n c i) (h : i < length p) (q : k ≡ get_or p i 0) (l : k < 256) (t : Spells e m s c a) where
     step : along p 0 (cased e (rest m s at)) ≡ pick (passes k a.u) (along (drop (i + 1) p) (tally k n a.u) (cased e (rest m s a.next))) lost
     step = f.left ∙ rw (drop_next p i h, ← q, t.is) (along-spell k (drop (i + 1) p) n a.u _ l)
 

@@ -6,7 +6,7 @@ use Rattle.octets.specs.Pick.{pick, ◌and◌}
 use Rattle.octets.specs.Class.{is_small, upper_byte, upper}
 use Rattle.octets.specs.Words.{is_empty}
 use Rattle.source.specs.Source.{rest, spell, Reads}
-use Rattle.source.specs.declared.Step.{Step}
+use Rattle.source.specs.declared.points.Unit.{Unit}
 use Rattle.times.specs.Letters.{cased, Spells}
 
 pub capital_most : (u : ℕ) → upper_byte u ≤ u
@@ -29,11 +29,11 @@ upper-spell u r h = go (eqb u 256) refl
     go true e = rw (eqb-true u 256 e, capital_end)
     go false e = rw (ne_eqb (upper_byte u) 256 (λ q. eqb-false u 256 e (omega (arith, capital_most u))))
 
-pub spells_plain : {m : ℕ} {s : List ℕ} {c : ℕ} {r : Step} {e : Bool} → e ≡ true → Reads m s c r → Spells e m s c r
+pub spells_plain : {m : ℕ} {s : List ℕ} {c : ℕ} {r : Unit} {e : Bool} → e ≡ true → Reads m s c r → Spells e m s c r
 unfolding cased
 spells_plain h p = rw h (record { is = p.is; small = p.small; moved = p.moved; inside = p.inside })
 
-pub spells_capital : {m : ℕ} {s : List ℕ} {c : ℕ} {r : Step} {e : Bool} {w : ℕ} → e ≡ false → Reads m s c r → w ≡ upper_byte r.u → Spells e m s c (record { u = w; next = r.next })
+pub spells_capital : {m : ℕ} {s : List ℕ} {c : ℕ} {r : Unit} {e : Bool} {w : ℕ} → e ≡ false → Reads m s c r → w ≡ upper_byte r.u → Spells e m s c (record { u = w; next = r.next })
 unfolding cased
 spells_capital {m} {s} {c} {r} {e} {w} h p k =
     rw (h, k) (capital r.u r.next p.is p.small p.moved p.inside)
@@ -62,7 +62,7 @@ cased_empty false [] = refl
 cased_empty false (b ∷ l) = refl
 
 -- nothing is left where the end was found
-pub ends_here : {m : ℕ} {s : List ℕ} {c : ℕ} {r : Step} → Reads m s c r → eqb r.u 256 ≡ is_empty (rest m s c)
+pub ends_here : {m : ℕ} {s : List ℕ} {c : ℕ} {r : Unit} → Reads m s c r → eqb r.u 256 ≡ is_empty (rest m s c)
 unfolding spell pick
 ends_here {m} {s} {c} {r} p = rw p.is (go (eqb r.u 256))
   where

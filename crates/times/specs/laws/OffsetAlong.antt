@@ -18,7 +18,7 @@ use Rattle.octets.specs.Decimal.{value, digit_of}
 use Rattle.octets.specs.Reading.{provided, and_then}
 use Rattle.calendar.specs.Calendar.{xcal, format_of}
 use Rattle.source.specs.Source.{rest, spell, Reads}
-use Rattle.source.specs.declared.Step.{Step}
+use Rattle.source.specs.declared.points.Unit.{Unit}
 use Rattle.times.specs.Spelling.{keep, begins, with_marks, without_marks, put_mark, fits}
 use Rattle.times.specs.laws.Spelling.{marks_exact, marks_length}
 use Rattle.times.specs.Pattern.{reached, lost, passes, tally, along, zeros, digits_at, followed_by, is_mark, are_marks}
@@ -325,7 +325,7 @@ minus_none : eqb 256 45 ≡ is_minus []
 unfolding is_minus begins
 minus_none = refl
 
-pub minus_here : {m : ℕ} {s : List ℕ} {c : ℕ} {a : Step} → Reads m s c a → eqb a.u 45 ≡ is_minus (rest m s c)
+pub minus_here : {m : ℕ} {s : List ℕ} {c : ℕ} {a : Unit} → Reads m s c a → eqb a.u 45 ≡ is_minus (rest m s c)
 unfolding spell pick
 minus_here {m} {s} {c} {a} p = rw p.is (go (eqb a.u 256) refl)
   where

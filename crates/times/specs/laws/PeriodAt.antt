@@ -11,7 +11,7 @@ use Rattle.octets.specs.Reading.{and_then, is_read}
 use Rattle.octets.specs.laws.Reading.{provided-some}
 use Rattle.calendar.specs.Calendar.{ical, period_start}
 use Rattle.source.specs.Source.{rest, spell}
-use Rattle.source.specs.declared.Step.{Step}
+use Rattle.source.specs.declared.points.Unit.{Unit}
 use Rattle.times.specs.Spelling.{keep}
 use Rattle.times.specs.Letters.{cased, Spells}
 use Rattle.times.specs.Followed.{walked, Walks}
@@ -45,7 +45,7 @@ start_spell u l = go (eqb u 256) refl
     go true e = rw (eqb-true u 256 e)
     go false e = refl
 
-module _ {m : ℕ} {s : List ℕ} {c : ℕ} {a : Step} (p : Spells false m s c a) where
+module _ {m : ℕ} {s : List ℕ} {c : ℕ} {a : Unit} (p : Spells false m s c a) where
   here : after_start (cased false (rest m s c)) ≡ pick (eqb a.u 47) (cut Local (cased false (rest m s a.next))) (pick (eqb a.u 90) (slashed Utc (cased false (rest m s a.next))) uncut)
   here = ap after_start p.is ∙ start_spell a.u _
 
@@ -57,7 +57,7 @@ module _ {m : ℕ} {s : List ℕ} {c : ℕ} {a : Step} (p : Spells false m s c a
   unfolding pick
   cut_other h k = record { is = here ∙ rw (ne_eqb a.u 47 h, ne_eqb a.u 90 k) }
 
-  module _ {b : Step} (q : Spells false m s a.next b) (h : a.u ≡ 90) where
+  module _ {b : Unit} (q : Spells false m s a.next b) (h : a.u ≡ 90) where
     there : after_start (cased false (rest m s c)) ≡ pick (eqb b.u 47) (cut Utc (cased false (rest m s b.next))) uncut
     unfolding pick
     there = here ∙ rw (ne_eqb a.u 47 (omega arith), eq-eqb a.u 90 h) (ap (slashed Utc) q.is ∙ slashed-spell Utc b.u _)

@@ -28,7 +28,7 @@ use Rattle.times.specs.laws.Letters.{cased_empty}
 use Rattle.times.specs.Followed.{walked, Walks}
 use Rattle.times.specs.laws.Digits.{digit_is, digit_small, two_of}
 use Rattle.times.specs.TimeAlong.{time_pattern, is_hms, is_zone, hms, clock_from, timed, zone, is_utc, time_of, clock_by}
-use Rattle.source.specs.declared.Step.{Step}
+use Rattle.source.specs.declared.points.Unit.{Unit}
 use Rattle.times.specs.declared.follow.Walk.{Walk}
 use Rattle.times.specs.declared.time.Zone.{Zone}
 use Rattle.times.specs.declared.time.Zone.TheVariants.{Local, Utc}
@@ -172,7 +172,7 @@ same_z : (u : ℕ) (l : List ℕ) → same (u ∷ l) (ascii "Z") ≡ (eqb u 90 a
 unfolding same
 same_z u l = ap (λ (t : Bool). eqb u 90 and t) (same_end l)
 
-module _ {e : Bool} {m : ℕ} {s : List ℕ} {c : ℕ} {a : Step} (p : Spells e m s c a) where
+module _ {e : Bool} {m : ℕ} {s : List ℕ} {c : ℕ} {a : Unit} (p : Spells e m s c a) where
   pub zone_none : a.u ≡ 256 → Some Local ≡ zone (cased e (rest m s c))
   unfolding zone pick
   zone_none h = rw (p.is, spell_end a.u (cased e (rest m s a.next)) h)

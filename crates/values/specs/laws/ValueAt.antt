@@ -286,26 +286,14 @@ pub recur_xml : {x : Bool} (m : ℕ) (l : List ℕ) → x ≡ true → false ≡
 unfolding is_read_at read_value is_read ◌and◌ ◌or◌
 recur_xml m l h = rw h
 
-pub cuts_plain : (m : ℕ) → m ≡ 0 → cuts m ≡ true
-cuts_plain m h = rw h
-
-pub cuts_folded : (m : ℕ) → m ≡ 2 → cuts m ≡ true
-cuts_folded m h = rw h
-
 module _ {x : Bool} (m : ℕ) (l : List ℕ) (e : x ≡ false) where
   pub recur_is : {b : Bool} → cuts m ≡ true → b ≡ is_read (read_rule l) → b ≡ is_read_at x m RECUR l
   unfolding read_value
   recur_is h q = sym (at_cut x m RECUR l (λ z. h) ∙ rw e (mapped _ (read_rule l)) ∙ sym q)
 
   -- in no other encoding
-  pub recur_no : (m ≡ 0 → ⊥) → (m ≡ 2 → ⊥) → false ≡ is_read_at x m RECUR l
+  pub recur_uncut : cuts m ≡ false → false ≡ is_read_at x m RECUR l
   unfolding is_read_at ◌and◌ ◌or◌
-  recur_no h k = rw (e, go m h k)
-    where
-      go : (m : ℕ) → (m ≡ 0 → ⊥) → (m ≡ 2 → ⊥) → cuts m ≡ false
-      go zero h k = absurd (h refl)
-      go (suc zero) h k = refl
-      go (suc (suc zero)) h k = absurd (k refl)
-      go (suc (suc (suc m))) h k = refl
+  recur_uncut h = rw (e, h) refl
 
 pub ruleset choosing = (type_yes, type_no, value_yes, value_no, at_plain, rules)

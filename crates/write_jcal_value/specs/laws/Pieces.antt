@@ -11,7 +11,7 @@ use Rattle.octets.specs.Words.{onto, cut_at, each_after, joined_by}
 use Rattle.sink.specs.Sink.{Put, Todo}
 use Rattle.sink.specs.laws.Sink.{◌▷◌, put_length, todo_all, todo_step, todo_done}
 use Rattle.source.specs.Source.{rest, Within, Reads}
-use Rattle.source.specs.declared.Step.{Step}
+use Rattle.source.specs.declared.points.Unit.{Unit}
 use Rattle.recur.specs.Pieces.{Ends}
 use Rattle.recur.specs.laws.PieceLaws.{pieces_last, pieces_more, step_less}
 use Rattle.json_text.specs.Bytes.{value_separator}
@@ -65,7 +65,7 @@ module _ (f : List ℕ → List ℕ) where
   pub piecing_start : (d : List ℕ) (at m : ℕ) (s : List ℕ) (c : ℕ) → length d * 1 < 2 ^ 63 → Within m s c → Piecing d at m s c d at c
   piecing_start d at m s c z h = record { todo = todo_all d at (from_piece m s c) z; inside = h; kept = refl }
 
-  module _ {d₀ : List ℕ} {at₀ m : ℕ} {s : List ℕ} {c₀ : ℕ} {d : List ℕ} {at c e : ℕ} {n : Step} {d' : List ℕ} {a : ℕ} (i : Piecing d₀ at₀ m s c₀ d at c) (p : Ends 44 m s c e)
+  module _ {d₀ : List ℕ} {at₀ m : ℕ} {s : List ℕ} {c₀ : ℕ} {d : List ℕ} {at c e : ℕ} {n : Unit} {d' : List ℕ} {a : ℕ} (i : Piecing d₀ at₀ m s c₀ d at c) (p : Ends 44 m s c e)
       (w : Put d d' at a (f (rest m (take e s) c))) (q : Reads m s e n) where
     pub piecing_more : {d'' : List ℕ} {o : ℕ} → (n.u ≡ 256 → ⊥) → Put d' d'' a o (ascii ",") → Piecing d₀ at₀ m s c₀ d'' o n.next
     piecing_more h x = record {
@@ -79,7 +79,7 @@ module _ (f : List ℕ → List ℕ) where
 
   -- ---- one piece alone, or several
 
-  module _ {d e : List ℕ} {o r : ℕ} {m : ℕ} {s : List ℕ} {c a : ℕ} {n : Step} (p : Ends 44 m s c a) (q : Reads m s a n) where
+  module _ {d e : List ℕ} {o r : ℕ} {m : ℕ} {s : List ℕ} {c a : ℕ} {n : Unit} (p : Ends 44 m s c a) (q : Reads m s a n) where
     pub one_piece : n.u ≡ 256 → Put d e o r (f (rest m (take a s) c)) → Put d e o r (one_or_array (map f (cut_at 44 (rest m s c))))
     one_piece h w = rw (pieces_last p q h) w
 

@@ -23,7 +23,7 @@ use Rattle.octets.specs.Front.{up_to, past}
 use Rattle.sink.specs.Sink.{Put}
 use Rattle.sink.specs.laws.Sink.{◌▷◌}
 use Rattle.source.specs.Source.{rest, cuts, Within, Reads}
-use Rattle.source.specs.declared.Step.{Step}
+use Rattle.source.specs.declared.points.Unit.{Unit}
 use Rattle.recur.specs.Parts.{part_of, part_names, is_listed, is_list_part}
 use Rattle.recur.specs.Rule.{is_equals, items_of}
 use Rattle.recur.specs.Pieces.{Ends, piece_name}
@@ -58,7 +58,7 @@ module _ {d e : List ℕ} {o r : ℕ} (n v : List ℕ) {t : Bool} (q : t ≡ is_
   unfolding items_shown pick
   put_single h x = let k : is_list_part n ≡ false = sym q ∙ h in rw k x
 
-module _ {d e : List ℕ} {o r : ℕ} (n : List ℕ) {m : ℕ} {s : List ℕ} {c a : ℕ} {u : Step} (p : Ends 44 m s c a) (q : Reads m s a u) where
+module _ {d e : List ℕ} {o r : ℕ} (n : List ℕ) {m : ℕ} {s : List ℕ} {c a : ℕ} {u : Unit} (p : Ends 44 m s c a) (q : Reads m s a u) where
   pub put_one : u.u ≡ 256 → Put d e o r (item_shown n (rest m (take a s) c)) → Put d e o r (items_shown n (cut_at 44 (rest m s c)))
   unfolding items_shown
   put_one h w = one_piece (item_shown n) p q h w

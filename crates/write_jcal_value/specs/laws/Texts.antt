@@ -18,7 +18,7 @@ use Rattle.sink.specs.Sink.{Put, Todo}
 use Rattle.sink.specs.laws.Sink.{put_none, todo_step, todo_done, writing}
 use Rattle.source.specs.Source.{rest, Reads}
 use Rattle.source.specs.laws.Facts.{rest_byte, rest_end}
-use Rattle.source.specs.declared.Step.{Step}
+use Rattle.source.specs.declared.points.Unit.{Unit}
 use Rattle.texts.specs.Text.{Sign, char, opening, separator, fault, is_escaped, sign_of, opens, onto_read, with_sign, split_from, split_text, alone, read_text}
 use Rattle.texts.specs.laws.Text.{split_filled}
 use Rattle.json_text.specs.Bytes.{value_separator}
@@ -148,7 +148,7 @@ text_alone l t h =
 
 -- ---- the loop
 
-module _ {d₀ : List ℕ} {at₀ : ℕ} {all d : List ℕ} {at : ℕ} {m : ℕ} {s : List ℕ} {c : ℕ} {r : Step} (after : Bool)
+module _ {d₀ : List ℕ} {at₀ : ℕ} {all d : List ℕ} {at : ℕ} {m : ℕ} {s : List ℕ} {c : ℕ} {r : Unit} (after : Bool)
     (w : Todo d₀ at₀ all d at (strings_from after (rest m s c))) (p : Reads m s c r) where
   pub strings_more : {after' : Bool} {e : List ℕ} {o : ℕ} → (r.u ≡ 256 → ⊥) → Put d e at o (byte_json after r.u) → after' ≡ opens after r.u →
       Todo d₀ at₀ all e o (strings_from after' (rest m s r.next))

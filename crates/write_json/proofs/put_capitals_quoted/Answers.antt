@@ -3,16 +3,16 @@ use Rattle.sink.specs.laws.Sink.{writing}
 use Rattle.write_json.proofs.put_capitals_quoted.Goals as goal
 
 pub put-a-requires : goal.put-a-requires
-put-a-requires c = search writing
+put-a-requires g c = search writing
 
 pub put_escaped_capitals-b-requires : goal.put_escaped_capitals-b-requires
-put_escaped_capitals-b-requires c = search writing
+put_escaped_capitals-b-requires g c = search writing
 
 pub put-requires : goal.put-requires
-put-requires c = search writing
+put-requires g c = search writing
 
 pub shape_of-out : goal.shape_of-out
-shape_of-out c = search writing
+shape_of-out g c = search writing
 
 pub returns : goal.returns
-returns c = search writing
+returns g c = search writing

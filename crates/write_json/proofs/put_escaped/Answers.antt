@@ -11,25 +11,25 @@ use Rattle.write_json.specs.laws.Escaped.{escaped-each}
 use Rattle.write_json.proofs.put_escaped.Goals as goal
 
 pub loop-t-init : goal.loop-t-init
-loop-t-init c = search copying
+loop-t-init g c = search copying
 
 pub unit-t-requires : goal.unit-t-requires
-unit-t-requires c = search copying
+unit-t-requires g c = search copying
 
 pub shape_of-out-then-u-eq-END : goal.shape_of-out-then-u-eq-END
-shape_of-out-then-u-eq-END c = search copying
+shape_of-out-then-u-eq-END g c = search copying
 
 pub returns-then-u-eq-END : goal.returns-then-u-eq-END
-returns-then-u-eq-END c = rw escaped-each (search copying)
+returns-then-u-eq-END g c = rw escaped-each (search copying)
 
 pub overflow_cast-u : goal.overflow_cast-u
-overflow_cast-u c = search copying
+overflow_cast-u g c = search copying
 
 pub put_escaped_byte-o-requires : goal.put_escaped_byte-o-requires
-put_escaped_byte-o-requires c = search copying
+put_escaped_byte-o-requires g c = search copying
 
 pub loop-t-smaller : goal.loop-t-smaller
-loop-t-smaller c = search copying
+loop-t-smaller g c = search copying
 
 pub loop-t-preserved : goal.loop-t-preserved
-loop-t-preserved c = search copying
+loop-t-preserved g c = search copying

@@ -11,7 +11,7 @@ use Rattle.write_json.specs.laws.Escaped.{capital_byte, capitals_each, capital_s
 use Rattle.write_json.proofs.put_escaped_capitals.Given as goal
 
 abbrev pub invariant-loop-t : goal.invariant-loop-t
-invariant-loop-t l = Todo l.initial.out l.at (each capital_byte (rest l.mode l.s l.from)) l.out l.o (each capital_byte (rest l.mode l.s l.c)) × (length l.out ≡ length l.initial.out)
+invariant-loop-t g l = Todo l.initial.out l.at (each capital_byte (rest g.E.Encoding.encoding l.s l.from)) l.out l.o (each capital_byte (rest g.E.Encoding.encoding l.s l.c)) × (length l.out ≡ length l.initial.out)
 
 abbrev pub decreases-loop-t : goal.decreases-loop-t
-decreases-loop-t l = 4 * length l.s - l.c
+decreases-loop-t g l = 4 * length l.s - l.c

@@ -11,28 +11,28 @@ use Rattle.write_json.specs.laws.Escaped.{small_byte, small_each, small_small, l
 use Rattle.write_json.proofs.put_escaped_small.Goals as goal
 
 pub loop-t-init : goal.loop-t-init
-loop-t-init c = search lettering
+loop-t-init g c = search lettering
 
 pub unit-t-requires : goal.unit-t-requires
-unit-t-requires c = search lettering
+unit-t-requires g c = search lettering
 
 pub shape_of-out-then-u-eq-END : goal.shape_of-out-then-u-eq-END
-shape_of-out-then-u-eq-END c = search lettering
+shape_of-out-then-u-eq-END g c = search lettering
 
 pub returns-then-u-eq-END : goal.returns-then-u-eq-END
-returns-then-u-eq-END c = rw small_each (search lettering)
+returns-then-u-eq-END g c = rw small_each (search lettering)
 
 pub lower_unit-v-requires : goal.lower_unit-v-requires
-lower_unit-v-requires c = search lettering
+lower_unit-v-requires g c = search lettering
 
 pub overflow_cast-v : goal.overflow_cast-v
-overflow_cast-v c = omega (arith, c.lower_unit-v.ensures, small_small c.unit-t.result.u (byte_small c.unit-t.ensures c.if-u-eq-END.false))
+overflow_cast-v g c = omega (arith, c.lower_unit-v.ensures, small_small c.unit-t.result.u (byte_small c.unit-t.ensures c.if-u-eq-END.false))
 
 pub put_escaped_byte-o-requires : goal.put_escaped_byte-o-requires
-put_escaped_byte-o-requires c = search lettering
+put_escaped_byte-o-requires g c = search lettering
 
 pub loop-t-smaller : goal.loop-t-smaller
-loop-t-smaller c = search lettering
+loop-t-smaller g c = search lettering
 
 pub loop-t-preserved : goal.loop-t-preserved
-loop-t-preserved c = search lettering
+loop-t-preserved g c = search lettering

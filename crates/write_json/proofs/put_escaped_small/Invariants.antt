@@ -11,7 +11,7 @@ use Rattle.write_json.specs.laws.Escaped.{small_byte, small_each, small_small, l
 use Rattle.write_json.proofs.put_escaped_small.Given as goal
 
 abbrev pub invariant-loop-t : goal.invariant-loop-t
-invariant-loop-t l = Todo l.initial.out l.at (each small_byte (rest l.mode l.s l.from)) l.out l.o (each small_byte (rest l.mode l.s l.c)) × (length l.out ≡ length l.initial.out)
+invariant-loop-t g l = Todo l.initial.out l.at (each small_byte (rest g.E.Encoding.encoding l.s l.from)) l.out l.o (each small_byte (rest g.E.Encoding.encoding l.s l.c)) × (length l.out ≡ length l.initial.out)
 
 abbrev pub decreases-loop-t : goal.decreases-loop-t
-decreases-loop-t l = 4 * length l.s - l.c
+decreases-loop-t g l = 4 * length l.s - l.c

@@ -12,7 +12,7 @@ use Rattle.sink.specs.Sink.{Put, Todo}
 use Rattle.sink.specs.laws.Sink.{put_length, todo_all, todo_step, todo_done, writing}
 use Rattle.source.specs.Source.{rest, cuts, Within, Reads}
 use Rattle.source.specs.laws.Facts.{rest_past}
-use Rattle.source.specs.declared.Step.{Step}
+use Rattle.source.specs.declared.points.Unit.{Unit}
 use Rattle.schema.specs.Numbers.{type_at}
 use Rattle.texts.specs.TextList.{read_texts}
 use Rattle.texts.specs.Elements.{texts_xml}
@@ -35,7 +35,7 @@ pub record Piecing (t : ℕ) (d₀ : List ℕ) (at₀ m : ℕ) (s : List ℕ) (c
 pub piecing_start : (t : ℕ) (d : List ℕ) (at m : ℕ) (s : List ℕ) (c : ℕ) → length d * 1 < 2 ^ 63 → Within m s c → Piecing t d at m s c d at c
 piecing_start t d at m s c z h = record { todo = todo_all d at (from_piece t m s c) z; inside = h; kept = refl }
 
-module _ {t : ℕ} {d₀ : List ℕ} {at₀ m : ℕ} {s : List ℕ} {c₀ : ℕ} {d : List ℕ} {at c e : ℕ} {n : Step} {d' : List ℕ} {o : ℕ} (i : Piecing t d₀ at₀ m s c₀ d at c) (p : Ends 44 m s c e)
+module _ {t : ℕ} {d₀ : List ℕ} {at₀ m : ℕ} {s : List ℕ} {c₀ : ℕ} {d : List ℕ} {at c e : ℕ} {n : Unit} {d' : List ℕ} {o : ℕ} (i : Piecing t d₀ at₀ m s c₀ d at c) (p : Ends 44 m s c e)
     (w : Put d d' at o (or_nothing value_xml (read_value ical (type_at t) (rest m (take e s) c)))) (q : Reads m s e n) where
   pub piecing_more : (n.u ≡ 256 → ⊥) → Piecing t d₀ at₀ m s c₀ d' o n.next
   unfolding pieces_xml ◌⊕◌

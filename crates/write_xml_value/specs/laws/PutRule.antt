@@ -19,7 +19,7 @@ use Rattle.octets.specs.Front.{up_to, past}
 use Rattle.sink.specs.Sink.{Put, Todo}
 use Rattle.sink.specs.laws.Sink.{put_length, todo_all, todo_step, todo_done}
 use Rattle.source.specs.Source.{rest, Within, Reads}
-use Rattle.source.specs.declared.Step.{Step}
+use Rattle.source.specs.declared.points.Unit.{Unit}
 use Rattle.recur.specs.Parts.{part_of, part_names, is_listed, is_list_part}
 use Rattle.recur.specs.Rule.{is_equals}
 use Rattle.recur.specs.Pieces.{Ends, piece_name}
@@ -48,7 +48,7 @@ pub record Itemizing (n : List ℕ) (d₀ : List ℕ) (at₀ m : ℕ) (s : List 
 pub items_start : (n d : List ℕ) (at m : ℕ) (s : List ℕ) (c : ℕ) → length d * 1 < 2 ^ 63 → Within m s c → Itemizing n d at m s c d at c
 items_start n d at m s c z h = record { todo = todo_all d at (each_xml n (cut_at 44 (rest m s c))) z; kept = refl; inside = h }
 
-module _ {n d₀ : List ℕ} {at₀ m : ℕ} {s : List ℕ} {c₀ : ℕ} {d : List ℕ} {at c e : ℕ} {u : Step} {d' : List ℕ} {o : ℕ} (t : Itemizing n d₀ at₀ m s c₀ d at c) (i : Ends 44 m s c e)
+module _ {n d₀ : List ℕ} {at₀ m : ℕ} {s : List ℕ} {c₀ : ℕ} {d : List ℕ} {at c e : ℕ} {u : Unit} {d' : List ℕ} {o : ℕ} (t : Itemizing n d₀ at₀ m s c₀ d at c) (i : Ends 44 m s c e)
     (w : Put d d' at o (item_xml n (rest m (take e s) c))) (p : Reads m s e u) where
   pub items_more : (u.u ≡ 256 → ⊥) → Itemizing n d₀ at₀ m s c₀ d' o u.next
   unfolding each_xml ◌⊕◌

@@ -7,7 +7,7 @@ use Rattle.distinct.specs.laws.Again.{Between, half_start, half_all, half_lower,
 use Rattle.distinct.proofs.again.first_again.Given as goal
 
 abbrev pub invariant-loop-low : goal.invariant-loop-low
-invariant-loop-low l = Between (word_at l.mode l.s l.from l.to) l.n l.low l.high
+invariant-loop-low g l = Between (word_at g.E.Encoding.encoding l.s l.from l.to) l.n l.low l.high
 
 abbrev pub decreases-loop-low : goal.decreases-loop-low
-decreases-loop-low l = l.high - l.low
+decreases-loop-low g l = l.high - l.low

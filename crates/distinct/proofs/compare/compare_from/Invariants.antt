@@ -10,7 +10,7 @@ use borrow.Author.Rules.{rules}
 use Rattle.distinct.proofs.compare.compare_from.Given as goal
 
 abbrev pub invariant-loop-x : goal.invariant-loop-x
-invariant-loop-x l = order (upper (rest l.mode l.s l.a)) (upper (rest l.mode l.t l.b)) ≡ order (upper (rest l.mode l.s l.c)) (upper (rest l.mode l.t l.d))
+invariant-loop-x g l = order (upper (rest g.E.Encoding.encoding l.s l.a)) (upper (rest g.E.Encoding.encoding l.t l.b)) ≡ order (upper (rest g.E.Encoding.encoding l.s l.c)) (upper (rest g.E.Encoding.encoding l.t l.d))
 
 abbrev pub decreases-loop-x : goal.decreases-loop-x
-decreases-loop-x l = 4 * length l.s - l.c
+decreases-loop-x g l = 4 * length l.s - l.c

@@ -5,7 +5,7 @@ use borrow.Author.Rules.{rules}
 use Rattle.distinct.proofs.heap.make_heap.Given as goal
 
 abbrev pub invariant-loop-i : goal.invariant-loop-i
-invariant-loop-i l = length l.order ≡ length l.initial.order
+invariant-loop-i g l = length l.order ≡ length l.initial.order
 
 abbrev pub decreases-loop-i : goal.decreases-loop-i
-decreases-loop-i l = l.i
+decreases-loop-i g l = l.i

@@ -8,7 +8,7 @@ use borrow.Author.Rules.{rules}
 use Rattle.distinct.proofs.order.rise.Given as goal
 
 abbrev pub invariant-loop-i : goal.invariant-loop-i
-invariant-loop-i l = Rising (word_at l.mode l.s l.from l.to) l.order (l.i + 1) × (l.i < 2 ^ 64 - 1)
+invariant-loop-i g l = Rising (word_at g.E.Encoding.encoding l.s l.from l.to) l.order (l.i + 1) × (l.i < 2 ^ 64 - 1)
 
 abbrev pub decreases-loop-i : goal.decreases-loop-i
-decreases-loop-i l = l.n - l.i
+decreases-loop-i g l = l.n - l.i

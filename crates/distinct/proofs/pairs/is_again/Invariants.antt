@@ -7,7 +7,7 @@ use borrow.Author.Rules.{rules}
 use Rattle.distinct.proofs.pairs.is_again.Given as goal
 
 abbrev pub invariant-loop-i : goal.invariant-loop-i
-invariant-loop-i l = Apart (word_at l.mode l.s l.from l.to) l.j l.i
+invariant-loop-i g l = Apart (word_at g.E.Encoding.encoding l.s l.from l.to) l.j l.i
 
 abbrev pub decreases-loop-i : goal.decreases-loop-i
-decreases-loop-i l = l.j - l.i
+decreases-loop-i g l = l.j - l.i

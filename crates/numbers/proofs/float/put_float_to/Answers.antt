@@ -3,7 +3,7 @@ use Rattle.sink.specs.laws.Sink.{writing}
 use Rattle.numbers.proofs.float.put_float_to.Goals as goal
 
 pub returns-in_default : goal.returns-in_default
-returns-in_default c = rw (c.float_to.ensures, c.in_default.is) (search writing)
+returns-in_default g c = rw (c.float_to.ensures, c.in_default.is) (search writing)
 
 pub returns : goal.returns
-returns c = rw (c.float_to.ensures, c.in-Some.is) (search writing)
+returns g c = rw (c.float_to.ensures, c.in-Some.is) (search writing)

@@ -8,7 +8,7 @@ use Rattle.numbers.specs.Until.{until}
 use Rattle.numbers.proofs.float.put_front.Given as goal
 
 abbrev pub invariant-loop-t : goal.invariant-loop-t
-invariant-loop-t l = Todo l.initial.out l.o (front (until l.stop l.mode l.s l.at)) l.out l.q (front (until l.stop l.mode l.s l.c)) × (length l.out ≡ length l.initial.out)
+invariant-loop-t g l = Todo l.initial.out l.o (front (until l.stop g.E.Encoding.encoding l.s l.at)) l.out l.q (front (until l.stop g.E.Encoding.encoding l.s l.c)) × (length l.out ≡ length l.initial.out)
 
 abbrev pub decreases-loop-t : goal.decreases-loop-t
-decreases-loop-t l = 4 * length l.s - l.c
+decreases-loop-t g l = 4 * length l.s - l.c

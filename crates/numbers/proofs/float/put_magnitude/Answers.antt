@@ -3,4 +3,4 @@ use Rattle.sink.specs.laws.Sink.{writing}
 use Rattle.numbers.proofs.float.put_magnitude.Goals as goal
 
 pub returns : goal.returns
-returns c = search writing
+returns g c = search writing

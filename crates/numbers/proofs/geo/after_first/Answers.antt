@@ -5,10 +5,10 @@ use Rattle.source.specs.laws.Facts.{rest_byte, rest_end}
 use Rattle.numbers.proofs.geo.after_first.Goals as goal
 
 pub returns-then-t-eq-END : goal.returns-then-t-eq-END
-returns-then-t-eq-END c = parted_no (c.loop-t.invariant ∙ part_none _ (rest_end c.unit-t.ensures c.if-t-eq-END.true))
+returns-then-t-eq-END g c = parted_no (c.loop-t.invariant ∙ part_none _ (rest_end c.unit-t.ensures c.if-t-eq-END.true))
 
 pub returns-then-t-c : goal.returns-then-t-c
-returns-then-t-c c = parted_yes (c.loop-t.invariant ∙ part_here _ (rest_byte c.unit-t.ensures c.if-t-eq-END.false) c.if-t-c.true)
+returns-then-t-c g c = parted_yes (c.loop-t.invariant ∙ part_here _ (rest_byte c.unit-t.ensures c.if-t-eq-END.false) c.if-t-c.true)
 
 pub loop-t-preserved : goal.loop-t-preserved
-loop-t-preserved c = c.loop-t.invariant ∙ part_more _ (rest_byte c.unit-t.ensures c.if-t-eq-END.false) c.if-t-c.false
+loop-t-preserved g c = c.loop-t.invariant ∙ part_more _ (rest_byte c.unit-t.ensures c.if-t-eq-END.false) c.if-t-c.false

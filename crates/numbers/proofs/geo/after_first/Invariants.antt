@@ -7,7 +7,7 @@ use Rattle.source.specs.Source.{rest}
 use Rattle.numbers.proofs.geo.after_first.Given as goal
 
 abbrev pub invariant-loop-t : goal.invariant-loop-t
-invariant-loop-t l = more_after l.c (rest l.mode l.s l.at) ≡ more_after l.c (rest l.mode l.s l.i)
+invariant-loop-t g l = more_after l.c (rest g.E.Encoding.encoding l.s l.at) ≡ more_after l.c (rest g.E.Encoding.encoding l.s l.i)
 
 abbrev pub decreases-loop-t : goal.decreases-loop-t
-decreases-loop-t l = 4 * length l.s - l.i
+decreases-loop-t g l = 4 * length l.s - l.i

@@ -3,7 +3,7 @@ use Rattle.numbers.specs.laws.PutInteger.{putting}
 use Rattle.numbers.proofs.integer.put_integer.Goals as goal
 
 pub returns-in_default : goal.returns-in_default
-returns-in_default c = rw (c.read_integer.ensures, c.in_default.is) (search putting)
+returns-in_default g c = rw (c.read_integer.ensures, c.in_default.is) (search putting)
 
 pub returns : goal.returns
-returns c = rw (c.read_integer.ensures, c.in-Some.is) (search putting)
+returns g c = rw (c.read_integer.ensures, c.in-Some.is) (search putting)

@@ -7,7 +7,7 @@ use lib.ListN.{length}
 use Rattle.numbers.proofs.numeral.worth.Given as goal
 
 abbrev pub invariant-loop-t : goal.invariant-loop-t
-invariant-loop-t l = (l.v ≤ l.most) × (worth_to l.most 0 (front l.letters (rest l.mode l.s l.at)) ≡ worth_to l.most l.v (front l.letters (rest l.mode l.s l.c)))
+invariant-loop-t g l = (l.v ≤ l.most) × (worth_to l.most 0 (front l.letters (rest g.E.Encoding.encoding l.s l.at)) ≡ worth_to l.most l.v (front l.letters (rest g.E.Encoding.encoding l.s l.c)))
 
 abbrev pub decreases-loop-t : goal.decreases-loop-t
-decreases-loop-t l = 4 * length l.s - l.c
+decreases-loop-t g l = 4 * length l.s - l.c

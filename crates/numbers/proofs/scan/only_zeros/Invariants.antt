@@ -8,7 +8,7 @@ use Rattle.numbers.specs.Until.{until}
 use Rattle.numbers.proofs.scan.only_zeros.Given as goal
 
 abbrev pub invariant-loop-t : goal.invariant-loop-t
-invariant-loop-t l = is_empty (no_trailing (until l.stop l.mode l.s l.at)) ≡ is_empty (no_trailing (until l.stop l.mode l.s l.c))
+invariant-loop-t g l = is_empty (no_trailing (until l.stop g.E.Encoding.encoding l.s l.at)) ≡ is_empty (no_trailing (until l.stop g.E.Encoding.encoding l.s l.c))
 
 abbrev pub decreases-loop-t : goal.decreases-loop-t
-decreases-loop-t l = 4 * length l.s - l.c
+decreases-loop-t g l = 4 * length l.s - l.c

@@ -7,7 +7,7 @@ use Rattle.numbers.specs.Until.{until}
 use Rattle.numbers.proofs.scan.zeros_end.Given as goal
 
 abbrev pub invariant-loop-t : goal.invariant-loop-t
-invariant-loop-t l = no_leading (until l.stop l.mode l.s l.at) ≡ no_leading (until l.stop l.mode l.s l.c)
+invariant-loop-t g l = no_leading (until l.stop g.E.Encoding.encoding l.s l.at) ≡ no_leading (until l.stop g.E.Encoding.encoding l.s l.c)
 
 abbrev pub decreases-loop-t : goal.decreases-loop-t
-decreases-loop-t l = 4 * length l.s - l.c
+decreases-loop-t g l = 4 * length l.s - l.c

@@ -8,22 +8,22 @@ use Rattle.std.proofs.Common.{◌≡◌, Err, rules}
 use Rattle.read_text.proofs.calendars.calendar.Goals as goal
 
 pub returns-in_default : goal.returns-in_default
-returns-in_default c = rw c.at.ensures (outer_loose _ c.requires.0 c.requires.1 (subst (EndsLine _ _ _) c.in_default.is c.line_end.ensures))
+returns-in_default g c = rw c.at.ensures (outer_loose _ c.requires.0 c.requires.1 (subst (EndsLine _ _ _) c.in_default.is c.line_end.ensures))
 
 pub slice_bounds-line_opens-end : goal.slice_bounds-line_opens-end
-slice_bounds-line_opens-end c = line_count c.requires.0 (subst (EndsLine _ _ _) c.in-Some.is c.line_end.ensures)
+slice_bounds-line_opens-end g c = line_count c.requires.0 (subst (EndsLine _ _ _) c.in-Some.is c.line_end.ensures)
 
 pub line_opens-requires : goal.line_opens-requires
-line_opens-requires c = (line_inside c.requires.0 (subst (EndsLine _ _ _) c.in-Some.is c.line_end.ensures), c.requires.0.cut)
+line_opens-requires g c = line_inside c.requires.0 (subst (EndsLine _ _ _) c.in-Some.is c.line_end.ensures)
 
 pub slice_bounds-body-end : goal.slice_bounds-body-end
-slice_bounds-body-end c = line_count c.requires.0 (subst (EndsLine _ _ _) c.in-Some.is c.line_end.ensures)
+slice_bounds-body-end g c = line_count c.requires.0 (subst (EndsLine _ _ _) c.in-Some.is c.line_end.ensures)
 
 pub body-requires : goal.body-requires
-body-requires c = (line_next c.requires.0 (subst (EndsLine _ _ _) c.in-Some.is c.line_end.ensures), outer_number _ c.line_opens.result c.requires.0 (subst (EndsLine _ _ _) c.in-Some.is c.line_end.ensures) c.line_opens.ensures c.in_ok-v.was)
+body-requires g c = (line_next c.requires.0 (subst (EndsLine _ _ _) c.in-Some.is c.line_end.ensures), outer_number _ c.line_opens.result c.requires.0 (subst (EndsLine _ _ _) c.in-Some.is c.line_end.ensures) c.line_opens.ensures c.in_ok-v.was)
 
 pub returns : goal.returns
-returns c = outer_body _ c.line_opens.result c.requires.0 (subst (EndsLine _ _ _) c.in-Some.is c.line_end.ensures) c.line_opens.ensures _ c.in_ok-v.was c.body.ensures
+returns g c = outer_body _ c.line_opens.result c.requires.0 (subst (EndsLine _ _ _) c.in-Some.is c.line_end.ensures) c.line_opens.ensures _ c.in_ok-v.was c.body.ensures
 
 pub returns-in_err-v : goal.returns-in_err-v
-returns-in_err-v c = let e : c.from_residual.result ≡ Err c.in_err-v.field-0.0 = search rules in rw e (outer_fault _ c.line_opens.result c.requires.0 (subst (EndsLine _ _ _) c.in-Some.is c.line_end.ensures) c.line_opens.ensures c.in_err-v.was)
+returns-in_err-v g c = let e : c.from_residual.result ≡ Err c.in_err-v.field-0.0 = search rules in rw e (outer_fault _ c.line_opens.result c.requires.0 (subst (EndsLine _ _ _) c.in-Some.is c.line_end.ensures) c.line_opens.ensures c.in_err-v.was)

@@ -6,10 +6,10 @@ use Rattle.read_text.specs.laws.Kinds.{name_within}
 use Rattle.read_text.proofs.calendars.line_opens.Goals as goal
 
 pub returns-in_default : goal.returns-in_default
-returns-in_default c = rw c.at.ensures (outer_bad _ _ _ _ (subst (LineAt _ _ _) c.in_default.is c.line_at.ensures))
+returns-in_default g c = rw c.at.ensures (outer_bad _ _ _ _ (subst (LineAt _ _ _) c.in_default.is c.line_at.ensures))
 
 pub content_opens-requires : goal.content_opens-requires
-content_opens-requires c = let a = (subst (LineAt _ _ _) c.in-Some.is c.line_at.ensures) in (name_within a c.requires.0, a.parts.1, c.requires.1)
+content_opens-requires g c = let a = (subst (LineAt _ _ _) c.in-Some.is c.line_at.ensures) in (name_within a c.requires, a.parts.1)
 
 pub returns : goal.returns
-returns c = outer_line _ _ _ _ _ c.content_opens.result c.requires.1 (subst (LineAt _ _ _) c.in-Some.is c.line_at.ensures) c.content_opens.ensures
+returns g c = outer_line _ _ _ _ _ c.content_opens.result g.met.E.Cuttable.cut (subst (LineAt _ _ _) c.in-Some.is c.line_at.ensures) c.content_opens.ensures

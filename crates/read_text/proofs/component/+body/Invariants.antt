@@ -7,10 +7,10 @@ use Rattle.read_text.proofs.Walk.{Reached}
 use Rattle.read_text.proofs.component.+body.Given as goal
 
 abbrev pub decreases-body : goal.decreases-body
-decreases-body l = l.left
+decreases-body g l = l.left
 
 abbrev pub invariant-loop-at : goal.invariant-loop-at
-invariant-loop-at l = Reached l.edition (upper (rest l.mode l.name l.v)) l.left l.method l.mode l.s l.from l.at l.counts l.action l.inner
+invariant-loop-at g l = Reached l.edition (upper (rest g.E.Encoding.encoding l.name l.v)) l.left l.method g.E.Encoding.encoding l.s l.from l.at l.counts l.action l.inner
 
 abbrev pub decreases-loop-at : goal.decreases-loop-at
-decreases-loop-at l = length l.s - l.at
+decreases-loop-at g l = length l.s - l.at

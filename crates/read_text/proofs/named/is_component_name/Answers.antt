@@ -3,22 +3,22 @@ use Rattle.read_text.specs.laws.Names.{naming}
 use Rattle.read_text.proofs.named.is_component_name.Goals as goal
 
 pub unit-first-requires : goal.unit-first-requires
-unit-first-requires c = search naming
+unit-first-requires g c = search naming
 
 pub returns-then-first-eq-END : goal.returns-then-first-eq-END
-returns-then-first-eq-END c = search naming
+returns-then-first-eq-END g c = search naming
 
 pub name_end-e-requires : goal.name_end-e-requires
-name_end-e-requires c = search naming
+name_end-e-requires g c = search naming
 
 pub unit-last-requires : goal.unit-last-requires
-unit-last-requires c = search naming
+unit-last-requires g c = search naming
 
 pub is_carried_name-requires : goal.is_carried_name-requires
-is_carried_name-requires c = search naming
+is_carried_name-requires g c = search naming
 
 pub returns-then-last-eq-END : goal.returns-then-last-eq-END
-returns-then-last-eq-END c = search naming
+returns-then-last-eq-END g c = search naming
 
 pub returns : goal.returns
-returns c = search naming
+returns g c = search naming

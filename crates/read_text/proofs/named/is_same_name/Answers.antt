@@ -3,10 +3,10 @@ use Rattle.read_text.specs.laws.Names.{comparing}
 use Rattle.read_text.proofs.named.is_same_name.Goals as goal
 
 pub compare_from-order-requires : goal.compare_from-order-requires
-compare_from-order-requires c = search comparing
+compare_from-order-requires g c = search comparing
 
 pub returns-then-order-eq0 : goal.returns-then-order-eq0
-returns-then-order-eq0 c = search comparing
+returns-then-order-eq0 g c = search comparing
 
 pub returns : goal.returns
-returns c = search comparing
+returns g c = search comparing

@@ -8,7 +8,7 @@ use Rattle.read_text_line.specs.Carried.{carries_name}
 use Rattle.read_text_line.proofs.carried.params_carried.Given as goal
 
 abbrev pub invariant-loop-p : goal.invariant-loop-p
-invariant-loop-p l = every carries_name (params_at l.mode l.s l.at) ≡ every carries_name (params_at l.mode l.s l.c)
+invariant-loop-p g l = every carries_name (params_at g.E.Encoding.encoding l.s l.at) ≡ every carries_name (params_at g.E.Encoding.encoding l.s l.c)
 
 abbrev pub decreases-loop-p : goal.decreases-loop-p
-decreases-loop-p l = 4 * length l.s - l.c
+decreases-loop-p g l = 4 * length l.s - l.c

@@ -9,7 +9,7 @@ use Rattle.edition.specs.Edition.{encode_byte}
 use Rattle.read_text_line.proofs.encoded.put_carets.Given as goal
 
 abbrev pub invariant-loop-t : goal.invariant-loop-t
-invariant-loop-t l = Todo l.initial.out l.at (each encode_byte (rest l.mode l.s l.from)) l.out l.o (each encode_byte (rest l.mode l.s l.c)) × (length l.out ≡ length l.initial.out)
+invariant-loop-t g l = Todo l.initial.out l.at (each encode_byte (rest g.E.Encoding.encoding l.s l.from)) l.out l.o (each encode_byte (rest g.E.Encoding.encoding l.s l.c)) × (length l.out ≡ length l.initial.out)
 
 abbrev pub decreases-loop-t : goal.decreases-loop-t
-decreases-loop-t l = 4 * length l.s - l.c
+decreases-loop-t g l = 4 * length l.s - l.c

@@ -5,7 +5,7 @@ use Rattle.read_text_line.specs.laws.LineEnd.{Seeking}
 use Rattle.read_text_line.proofs.ends.line_end.Given as goal
 
 abbrev pub invariant-loop-n : goal.invariant-loop-n
-invariant-loop-n l = Seeking l.mode l.s l.from l.c
+invariant-loop-n g l = Seeking g.E.Encoding.encoding l.s l.from l.c
 
 abbrev pub decreases-loop-n : goal.decreases-loop-n
-decreases-loop-n l = 4 * length l.s - l.c
+decreases-loop-n g l = 4 * length l.s - l.c

@@ -3,13 +3,13 @@ use Rattle.read_text_line.specs.laws.Line.{line_unnamed, line_faulty, line_there
 use Rattle.read_text_line.proofs.line.line_at.Goals as goal
 
 pub returns-then-no_name : goal.returns-then-no_name
-returns-then-no_name c = line_unnamed c.no_name.ensures c.if-no_name.true
+returns-then-no_name g c = line_unnamed c.no_name.ensures c.if-no_name.true
 
 pub returns-in_default : goal.returns-in_default
-returns-in_default c = line_faulty c.no_name.ensures c.if-no_name.false c.name_end-parameters.ensures c.next_params.ensures c.in_default.is
+returns-in_default g c = line_faulty c.no_name.ensures c.if-no_name.false c.name_end-parameters.ensures c.next_params.ensures c.in_default.is
 
 pub returns-in_err-value : goal.returns-in_err-value
-returns-in_err-value c = rw c.from_residual.ensures (line_valueless c.no_name.ensures c.if-no_name.false c.name_end-parameters.ensures c.next_params.ensures c.in-Ok.is c.value_at.ensures c.in_err-value.was)
+returns-in_err-value g c = rw c.from_residual.ensures (line_valueless c.no_name.ensures c.if-no_name.false c.name_end-parameters.ensures c.next_params.ensures c.in-Ok.is c.value_at.ensures c.in_err-value.was)
 
 pub returns : goal.returns
-returns c = line_there c.no_name.ensures c.if-no_name.false c.name_end-parameters.ensures c.next_params.ensures c.in-Ok.is c.value_at.ensures c.in_ok-value.was
+returns g c = line_there c.no_name.ensures c.if-no_name.false c.name_end-parameters.ensures c.next_params.ensures c.in-Ok.is c.value_at.ensures c.in_ok-value.was

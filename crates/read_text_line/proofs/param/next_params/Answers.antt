@@ -5,16 +5,16 @@ use Rattle.read_text_line.specs.laws.Repeating.{param_takes, walk_start, walk_mo
 use Rattle.read_text_line.proofs.param.next_params.Goals as goal
 
 pub loop-p-init : goal.loop-p-init
-loop-p-init c = walk_start _ _ _ _
+loop-p-init g c = walk_start _ _ _ _
 
 pub returns-in_err-p : goal.returns-in_err-p
-returns-in_err-p c = rw (err_any c.from_residual.result _ c.from_residual.ensures.0) (walk_bad c.next_param.ensures.item c.loop-p.invariant c.in_err-p.was)
+returns-in_err-p g c = rw (err_any c.from_residual.result _ c.from_residual.ensures.0) (walk_bad c.next_param.ensures.item c.loop-p.invariant c.in_err-p.was)
 
 pub loop-p-smaller : goal.loop-p-smaller
-loop-p-smaller c = walk_less c.next_param.ensures.item param_takes (c.in_ok-p.was ∙ ap Ok c.in-Some.is)
+loop-p-smaller g c = walk_less c.next_param.ensures.item param_takes (c.in_ok-p.was ∙ ap Ok c.in-Some.is)
 
 pub loop-p-preserved : goal.loop-p-preserved
-loop-p-preserved c = walk_more c.next_param.ensures.item param_takes c.loop-p.invariant (c.in_ok-p.was ∙ ap Ok c.in-Some.is)
+loop-p-preserved g c = walk_more c.next_param.ensures.item param_takes c.loop-p.invariant (c.in_ok-p.was ∙ ap Ok c.in-Some.is)
 
 pub returns : goal.returns
-returns c = walk_end c.next_param.ensures.item c.loop-p.invariant (c.in_ok-p.was ∙ ap Ok c.in_default.is)
+returns g c = walk_end c.next_param.ensures.item c.loop-p.invariant (c.in_ok-p.was ∙ ap Ok c.in_default.is)

@@ -6,7 +6,7 @@ use Rattle.read_text_line.specs.laws.Repeating.{Walk}
 use Rattle.read_text_line.proofs.value.next_values.Given as goal
 
 abbrev pub invariant-loop-v : goal.invariant-loop-v
-invariant-loop-v l = Walk next_value l.mode l.s l.at l.c
+invariant-loop-v g l = Walk next_value g.E.Encoding.encoding l.s l.at l.c
 
 abbrev pub decreases-loop-v : goal.decreases-loop-v
-decreases-loop-v l = 4 * length l.s - l.c
+decreases-loop-v g l = 4 * length l.s - l.c

@@ -8,7 +8,7 @@ use native.Mathlib.Omega.{arith}
 use Rattle.read_text_parameters.proofs.cut.number_of.Goals as goal
 
 pub slice_bounds-parameter_number-end : goal.slice_bounds-parameter_number-end
-slice_bounds-parameter_number-end c = simp length-take (omega arith)
+slice_bounds-parameter_number-end g c = simp length-take (omega arith)
 
 pub returns : goal.returns
-returns c = cut_at (λ l. place_of (upper l) parameter_names) c.args.mode c.args.s.now c.args.from c.args.to c.smaller-e.ensures c.parameter_number.ensures
+returns g c = cut_at (λ l. place_of (upper l) parameter_names) g.E.Encoding.encoding c.args.s.now c.args.from c.args.to c.smaller-e.ensures c.parameter_number.ensures

@@ -4,7 +4,7 @@ use lib.ListN.{length}
 use Rattle.read_text_parameters.proofs.heap.make_heap.Given as goal
 
 abbrev pub invariant-loop-i : goal.invariant-loop-i
-invariant-loop-i l = length l.places ≡ length l.initial.places
+invariant-loop-i g l = length l.places ≡ length l.initial.places
 
 abbrev pub decreases-loop-i : goal.decreases-loop-i
-decreases-loop-i l = l.i
+decreases-loop-i g l = l.i

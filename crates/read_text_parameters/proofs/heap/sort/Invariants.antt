@@ -5,7 +5,7 @@ use lib.ListN.{length}
 use Rattle.read_text_parameters.proofs.heap.sort.Given as goal
 
 abbrev pub invariant-loop-m : goal.invariant-loop-m
-invariant-loop-m l = (length l.places ≡ length l.initial.places) × (l.m ≤ l.n)
+invariant-loop-m g l = (length l.places ≡ length l.initial.places) × (l.m ≤ l.n)
 
 abbrev pub decreases-loop-m : goal.decreases-loop-m
-decreases-loop-m l = l.m
+decreases-loop-m g l = l.m

@@ -2,4 +2,4 @@
 use Rattle.read_text_parameters.proofs.once.+first_in_rounds.Given as goal
 
 abbrev pub decreases-first_in_rounds : goal.decreases-first_in_rounds
-decreases-first_in_rounds l = l.tries
+decreases-first_in_rounds g l = l.tries

@@ -2,4 +2,4 @@
 use Rattle.read_text_parameters.proofs.once.+first_sorted.Goals as goal
 
 pub returns-in-Some : goal.returns-in-Some
-returns-in-Some t c = rw (rw c.in-Some.is at c.collect.ensures) c.first_again.ensures
+returns-in-Some g t c = rw (rw c.in-Some.is at c.collect.ensures) c.first_again.ensures

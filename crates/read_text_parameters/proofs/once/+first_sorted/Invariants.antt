@@ -2,4 +2,4 @@
 use Rattle.read_text_parameters.proofs.once.+first_sorted.Given as goal
 
 abbrev pub decreases-first_sorted : goal.decreases-first_sorted
-decreases-first_sorted l = l.tries
+decreases-first_sorted g l = l.tries

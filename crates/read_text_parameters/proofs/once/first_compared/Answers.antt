@@ -7,22 +7,22 @@ use Rattle.std.proofs.Common.{ap, ◌∙◌, ◌≡◌, Ok, None, rules}
 use Rattle.read_text_parameters.proofs.once.first_compared.Goals as goal
 
 pub loop-a-init : goal.loop-a-init
-loop-a-init c = compared_start _ _ _
+loop-a-init g c = compared_start _ _ _
 
 pub returns-then-stands_before : goal.returns-then-stands_before
-returns-then-stands_before c = compared_again c.requires c.loop-a.invariant c.next_param.ensures (c.in-Ok-Some.is ∙ ap Ok c.in-Ok-Some.field-0-is) c.stands_before.ensures c.if-stands_before.true
+returns-then-stands_before g c = compared_again g.met.E.Cuttable.cut c.loop-a.invariant c.next_param.ensures (c.in-Ok-Some.is ∙ ap Ok c.in-Ok-Some.field-0-is) c.stands_before.ensures c.if-stands_before.true
 
 pub overflow_add-k : goal.overflow_add-k
-overflow_add-k c = let l = compared_less c.requires c.loop-a.invariant c.next_param.ensures (c.in-Ok-Some.is ∙ ap Ok c.in-Ok-Some.field-0-is) c.stands_before.ensures in let p = c.loop-a.invariant.past in let t = rw (c.in-Ok-Some.is ∙ ap Ok c.in-Ok-Some.field-0-is) at c.next_param.type_inv in omega (arith, l, p, t)
+overflow_add-k g c = let l = compared_less g.met.E.Cuttable.cut c.loop-a.invariant c.next_param.ensures (c.in-Ok-Some.is ∙ ap Ok c.in-Ok-Some.field-0-is) c.stands_before.ensures in let p = c.loop-a.invariant.past in let t = rw (c.in-Ok-Some.is ∙ ap Ok c.in-Ok-Some.field-0-is) at c.next_param.type_inv in omega (arith, l, p, t)
 
 pub loop-a-smaller : goal.loop-a-smaller
-loop-a-smaller c = param_less c.next_param.ensures (c.in-Ok-Some.is ∙ ap Ok c.in-Ok-Some.field-0-is)
+loop-a-smaller g c = param_less c.next_param.ensures (c.in-Ok-Some.is ∙ ap Ok c.in-Ok-Some.field-0-is)
 
 pub loop-a-preserved : goal.loop-a-preserved
-loop-a-preserved c = compared_more c.requires c.loop-a.invariant c.next_param.ensures (c.in-Ok-Some.is ∙ ap Ok c.in-Ok-Some.field-0-is) c.stands_before.ensures c.if-stands_before.false
+loop-a-preserved g c = compared_more g.met.E.Cuttable.cut c.loop-a.invariant c.next_param.ensures (c.in-Ok-Some.is ∙ ap Ok c.in-Ok-Some.field-0-is) c.stands_before.ensures c.if-stands_before.false
 
 pub returns-in_default : goal.returns-in_default
-returns-in_default c = let e : c.in_default.field-0 ≡ None = search rules in compared_over c.requires c.loop-a.invariant c.next_param.ensures (c.in_default.is ∙ ap Ok e)
+returns-in_default g c = let e : c.in_default.field-0 ≡ None = search rules in compared_over g.met.E.Cuttable.cut c.loop-a.invariant c.next_param.ensures (c.in_default.is ∙ ap Ok e)
 
 pub returns-in_default-2 : goal.returns-in_default-2
-returns-in_default-2 c = compared_fault c.requires c.loop-a.invariant c.next_param.ensures c.in_default.is
+returns-in_default-2 g c = compared_fault g.met.E.Cuttable.cut c.loop-a.invariant c.next_param.ensures c.in_default.is

@@ -5,7 +5,7 @@ use Rattle.read_text_parameters.specs.Comparing.{Comparing}
 use Rattle.read_text_parameters.proofs.once.first_compared.Given as goal
 
 abbrev pub invariant-loop-a : goal.invariant-loop-a
-invariant-loop-a l = Comparing l.mode l.s l.e l.k l.c
+invariant-loop-a g l = Comparing g.E.Encoding.encoding l.s l.e l.k l.c
 
 abbrev pub decreases-loop-a : goal.decreases-loop-a
-decreases-loop-a l = 4 * length l.s - l.c
+decreases-loop-a g l = 4 * length l.s - l.c

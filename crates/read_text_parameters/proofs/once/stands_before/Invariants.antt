@@ -8,7 +8,7 @@ use Rattle.read_text_parameters.specs.Comparing.{names_of}
 use Rattle.read_text_parameters.proofs.once.stands_before.Given as goal
 
 abbrev pub invariant-loop-left : goal.invariant-loop-left
-invariant-loop-left l = is_one_of (name_cut l.mode l.s l.name l.end) (take l.k (names_of (params_at l.mode l.s l.e))) ≡ is_one_of (name_cut l.mode l.s l.name l.end) (take l.left (names_of (params_at l.mode l.s l.c)))
+invariant-loop-left g l = is_one_of (name_cut g.E.Encoding.encoding l.s l.name l.end) (take l.k (names_of (params_at g.E.Encoding.encoding l.s l.e))) ≡ is_one_of (name_cut g.E.Encoding.encoding l.s l.name l.end) (take l.left (names_of (params_at g.E.Encoding.encoding l.s l.c)))
 
 abbrev pub decreases-loop-left : goal.decreases-loop-left
-decreases-loop-left l = l.left
+decreases-loop-left g l = l.left

@@ -5,19 +5,19 @@ use borrow.Author.Rules.{rules}
 use Rattle.read_text_parameters.proofs.order.compare_names.Goals as goal
 
 pub loop-x-init : goal.loop-x-init
-loop-x-init c = refl
+loop-x-init g c = refl
 
 pub returns-then-xu-yu : goal.returns-then-xu-yu
-returns-then-xu-yu c = search (name_less, rules)
+returns-then-xu-yu g c = search (name_less, rules)
 
 pub returns-then-yu-xu : goal.returns-then-yu-xu
-returns-then-yu-xu c = search (name_more, rules)
+returns-then-yu-xu g c = search (name_more, rules)
 
 pub returns-then-xu-eq-END : goal.returns-then-xu-eq-END
-returns-then-xu-eq-END c = search (name_end, rules)
+returns-then-xu-eq-END g c = search (name_end, rules)
 
 pub loop-x-smaller : goal.loop-x-smaller
-loop-x-smaller c = search (name_nearer, rules)
+loop-x-smaller g c = search (name_nearer, rules)
 
 pub loop-x-preserved : goal.loop-x-preserved
-loop-x-preserved c = search (name_on, rules)
+loop-x-preserved g c = search (name_on, rules)

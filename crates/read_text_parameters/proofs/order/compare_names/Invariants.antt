@@ -7,7 +7,7 @@ use Rattle.read_text_parameters.specs.Naming.{name_at}
 use Rattle.read_text_parameters.proofs.order.compare_names.Given as goal
 
 abbrev pub invariant-loop-x : goal.invariant-loop-x
-invariant-loop-x l = order (name_at l.mode l.s l.a) (name_at l.mode l.s l.b) ≡ order (name_at l.mode l.s l.c) (name_at l.mode l.s l.d)
+invariant-loop-x g l = order (name_at g.E.Encoding.encoding l.s l.a) (name_at g.E.Encoding.encoding l.s l.b) ≡ order (name_at g.E.Encoding.encoding l.s l.c) (name_at g.E.Encoding.encoding l.s l.d)
 
 abbrev pub decreases-loop-x : goal.decreases-loop-x
-decreases-loop-x l = 4 * length l.s - l.c
+decreases-loop-x g l = 4 * length l.s - l.c

@@ -11,19 +11,19 @@ use Rattle.std.proofs.Common.{ap, ◌∙◌, ◌≡◌, Ok, None, rules}
 use Rattle.read_text_parameters.proofs.read.are_read.Goals as goal
 
 pub loop-a-init : goal.loop-a-init
-loop-a-init c = all_read _
+loop-a-init g c = all_read _
 
 pub loop-a-smaller : goal.loop-a-smaller
-loop-a-smaller c = param_less c.next_param.ensures (c.in-Ok-Some.is ∙ ap Ok c.in-Ok-Some.field-0-is)
+loop-a-smaller g c = param_less c.next_param.ensures (c.in-Ok-Some.is ∙ ap Ok c.in-Ok-Some.field-0-is)
 
 pub loop-a-preserved : goal.loop-a-preserved
-loop-a-preserved c = read_step _ c.requires (every is_readable) c.loop-a.invariant c.next_param.ensures (c.in-Ok-Some.is ∙ ap Ok c.in-Ok-Some.field-0-is) ∙ every_go is_readable _ _ c.is_readable.ensures c.if-not-is_readable.false
+loop-a-preserved g c = read_step _ g.met.E.Cuttable.cut (every is_readable) c.loop-a.invariant c.next_param.ensures (c.in-Ok-Some.is ∙ ap Ok c.in-Ok-Some.field-0-is) ∙ every_go is_readable _ _ c.is_readable.ensures c.if-not-is_readable.false
 
 pub returns-then-not-is_readable : goal.returns-then-not-is_readable
-returns-then-not-is_readable c = sym (read_step _ c.requires (every is_readable) c.loop-a.invariant c.next_param.ensures (c.in-Ok-Some.is ∙ ap Ok c.in-Ok-Some.field-0-is) ∙ every_halt is_readable _ _ c.is_readable.ensures c.if-not-is_readable.true)
+returns-then-not-is_readable g c = sym (read_step _ g.met.E.Cuttable.cut (every is_readable) c.loop-a.invariant c.next_param.ensures (c.in-Ok-Some.is ∙ ap Ok c.in-Ok-Some.field-0-is) ∙ every_halt is_readable _ _ c.is_readable.ensures c.if-not-is_readable.true)
 
 pub returns-in_default : goal.returns-in_default
-returns-in_default c = let e : c.in_default.field-0 ≡ None = search rules in sym (read_over _ c.requires (every is_readable) c.loop-a.invariant c.next_param.ensures (c.in_default.is ∙ ap Ok e) ∙ every_nil is_readable)
+returns-in_default g c = let e : c.in_default.field-0 ≡ None = search rules in sym (read_over _ g.met.E.Cuttable.cut (every is_readable) c.loop-a.invariant c.next_param.ensures (c.in_default.is ∙ ap Ok e) ∙ every_nil is_readable)
 
 pub returns-in_default-2 : goal.returns-in_default-2
-returns-in_default-2 c = sym (read_fault _ c.requires (every is_readable) c.loop-a.invariant c.next_param.ensures c.in_default.is ∙ every_nil is_readable)
+returns-in_default-2 g c = sym (read_fault _ g.met.E.Cuttable.cut (every is_readable) c.loop-a.invariant c.next_param.ensures c.in_default.is ∙ every_nil is_readable)

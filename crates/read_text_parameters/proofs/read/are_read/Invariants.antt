@@ -10,7 +10,7 @@ use mathlib.Core.Path.{◌≡◌}
 use Rattle.read_text_parameters.proofs.read.are_read.Given as goal
 
 abbrev pub invariant-loop-a : goal.invariant-loop-a
-invariant-loop-a l = is_read (read_parameters (params_in l.edition l.mode l.s l.e)) ≡ every is_readable (params_in l.edition l.mode l.s l.c)
+invariant-loop-a g l = is_read (read_parameters (params_in l.edition g.E.Encoding.encoding l.s l.e)) ≡ every is_readable (params_in l.edition g.E.Encoding.encoding l.s l.c)
 
 abbrev pub decreases-loop-a : goal.decreases-loop-a
-decreases-loop-a l = 4 * length l.s - l.c
+decreases-loop-a g l = 4 * length l.s - l.c

@@ -6,7 +6,7 @@ use lib.ListN.{take}
 use Rattle.read_text_parameters.proofs.read.is_readable.Goals as goal
 
 pub returns-then-value : goal.returns-then-value
-returns-then-value c = readable_value (rest c.args.mode (take c.args.end c.args.s.now) c.args.name) (values_in c.args.edition c.args.mode c.args.s.now c.args.first) c.is_value_name-value.ensures c.if-value.true
+returns-then-value g c = readable_value (rest g.E.Encoding.encoding (take c.args.end c.args.s.now) c.args.name) (values_in c.args.edition g.E.Encoding.encoding c.args.s.now c.args.first) c.is_value_name-value.ensures c.if-value.true
 
 pub returns : goal.returns
-returns c = readable_other (rest c.args.mode (take c.args.end c.args.s.now) c.args.name) (values_in c.args.edition c.args.mode c.args.s.now c.args.first) c.is_value_name-value.ensures c.if-value.false c.number_of-q.ensures c.is_parameter.ensures
+returns g c = readable_other (rest g.E.Encoding.encoding (take c.args.end c.args.s.now) c.args.name) (values_in c.args.edition g.E.Encoding.encoding c.args.s.now c.args.first) c.is_value_name-value.ensures c.if-value.false c.number_of-q.ensures c.is_parameter.ensures

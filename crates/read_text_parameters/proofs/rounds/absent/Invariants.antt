@@ -4,7 +4,7 @@ use Rattle.read_text_parameters.specs.laws.Rounds.{Missing}
 use Rattle.read_text_parameters.proofs.rounds.absent.Given as goal
 
 abbrev pub invariant-loop-k : goal.invariant-loop-k
-invariant-loop-k l = Missing l.mode l.s l.places l.n l.from l.k l.c × (l.k ≤ l.left)
+invariant-loop-k g l = Missing g.E.Encoding.encoding l.s l.places l.n l.from l.k l.c × (l.k ≤ l.left)
 
 abbrev pub decreases-loop-k : goal.decreases-loop-k
-decreases-loop-k l = l.left - l.k
+decreases-loop-k g l = l.left - l.k

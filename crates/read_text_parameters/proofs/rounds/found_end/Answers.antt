@@ -4,10 +4,10 @@ use borrow.Author.Rules.{rules}
 use Rattle.read_text_parameters.proofs.rounds.found_end.Goals as goal
 
 pub loop-more-init : goal.loop-more-init
-loop-more-init c = found_start _ _
+loop-more-init g c = found_start _ _
 
 pub overflow_add-k : goal.overflow_add-k
-overflow_add-k c = search (found_fits, rules)
+overflow_add-k g c = search (found_fits, rules)
 
 pub loop-more-preserved : goal.loop-more-preserved
-loop-more-preserved c = found_more c.requires c.loop-more.invariant (rw c.in-Some.is at c.held_at.ensures) c.loop-more-test.true
+loop-more-preserved g c = found_more c.requires c.loop-more.invariant (rw c.in-Some.is at c.held_at.ensures) c.loop-more-test.true

@@ -3,7 +3,7 @@ use Rattle.read_text_parameters.specs.Rounds.{Found}
 use Rattle.read_text_parameters.proofs.rounds.found_end.Given as goal
 
 abbrev pub invariant-loop-more : goal.invariant-loop-more
-invariant-loop-more l = Found l.mode l.s l.places l.n l.from l.left (record { count = l.k; next = l.c; left = l.more })
+invariant-loop-more g l = Found g.E.Encoding.encoding l.s l.places l.n l.from l.left (record { count = l.k; next = l.c; left = l.more })
 
 abbrev pub decreases-loop-more : goal.decreases-loop-more
-decreases-loop-more l = l.more
+decreases-loop-more g l = l.more

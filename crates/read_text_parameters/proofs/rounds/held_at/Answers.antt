@@ -3,4 +3,4 @@ use Rattle.read_text_parameters.specs.laws.Rounds.{held_here}
 use Rattle.read_text_parameters.proofs.rounds.held_at.Goals as goal
 
 pub returns-then-is_found : goal.returns-then-is_found
-returns-then-is_found c = held_here c.in_ok-a.ensures c.is_found.ensures c.if-is_found.true
+returns-then-is_found g c = held_here c.in_ok-a.ensures c.is_found.ensures c.if-is_found.true

@@ -4,7 +4,7 @@ use borrow.Author.Rules.{rules}
 use Rattle.read_text_parameters.proofs.rounds.is_before.Goals as goal
 
 pub returns-then-i-n : goal.returns-then-i-n
-returns-then-i-n c = search (before_here, rules)
+returns-then-i-n g c = search (before_here, rules)
 
 pub returns : goal.returns
-returns c = search (before_none, rules)
+returns g c = search (before_none, rules)

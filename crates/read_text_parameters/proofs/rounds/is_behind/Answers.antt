@@ -4,7 +4,7 @@ use borrow.Author.Rules.{rules}
 use Rattle.read_text_parameters.proofs.rounds.is_behind.Goals as goal
 
 pub returns-then-i-gt0 : goal.returns-then-i-gt0
-returns-then-i-gt0 c = search (behind_here, rules)
+returns-then-i-gt0 g c = search (behind_here, rules)
 
 pub returns : goal.returns
-returns c = search (behind_none, rules)
+returns g c = search (behind_none, rules)

@@ -4,7 +4,7 @@ use borrow.Author.Rules.{rules}
 use Rattle.read_text_parameters.proofs.rounds.is_between.Goals as goal
 
 pub returns-then-behind : goal.returns-then-behind
-returns-then-behind c = search (between_yes, rules)
+returns-then-behind g c = search (between_yes, rules)
 
 pub returns : goal.returns
-returns c = search (between_not, rules)
+returns g c = search (between_not, rules)

@@ -4,7 +4,7 @@ use borrow.Author.Rules.{rules}
 use Rattle.read_text_parameters.proofs.rounds.is_found.Goals as goal
 
 pub returns-then-i-n : goal.returns-then-i-n
-returns-then-i-n c = search (stands_here, rules)
+returns-then-i-n g c = search (stands_here, rules)
 
 pub returns : goal.returns
-returns c = search (stands_not, rules)
+returns g c = search (stands_not, rules)

@@ -5,13 +5,13 @@ use borrow.Author.Rules.{rules}
 use Rattle.read_text_parameters.proofs.rounds.judge.Goals as goal
 
 pub returns-then-r-n : goal.returns-then-r-n
-returns-then-r-n c = search (passes_none, rules)
+returns-then-r-n g c = search (passes_none, rules)
 
 pub found_end-f-requires : goal.found_end-f-requires
-found_end-f-requires c = search (rising_fewer, rules)
+found_end-f-requires g c = search (rising_fewer, rules)
 
 pub absent-k-requires : goal.absent-k-requires
-absent-k-requires c = search (rising_fewer, rules)
+absent-k-requires g c = search (rising_fewer, rules)
 
 pub returns : goal.returns
-returns c = search (passes_all, rules)
+returns g c = search (passes_all, rules)

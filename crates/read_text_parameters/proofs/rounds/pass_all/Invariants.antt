@@ -6,7 +6,7 @@ use Rattle.read_text_parameters.specs.Rounds.{Passed}
 use Rattle.read_text_parameters.proofs.rounds.pass_all.Given as goal
 
 abbrev pub invariant-loop-left : goal.invariant-loop-left
-invariant-loop-left l = Passed l.mode l.s l.e l.k l.c l.left × (l.k + l.left ≤ 65536) × (length l.places ≡ length l.initial.places)
+invariant-loop-left g l = Passed g.E.Encoding.encoding l.s l.e l.k l.c l.left × (l.k + l.left ≤ 65536) × (length l.places ≡ length l.initial.places)
 
 abbrev pub decreases-loop-left : goal.decreases-loop-left
-decreases-loop-left l = l.left
+decreases-loop-left g l = l.left

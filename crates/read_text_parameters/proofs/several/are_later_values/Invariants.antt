@@ -11,7 +11,7 @@ use mathlib.Core.Path.{◌≡◌}
 use Rattle.read_text_parameters.proofs.several.are_later_values.Given as goal
 
 abbrev pub invariant-loop-v : goal.invariant-loop-v
-invariant-loop-v l = every (is_value_in l.edition (parameter_at l.q)) (items next_value (rest l.mode l.s l.at)) ≡ every (is_value_in l.edition (parameter_at l.q)) (items next_value (rest l.mode l.s l.c))
+invariant-loop-v g l = every (is_value_in l.edition (parameter_at l.q)) (items next_value (rest g.E.Encoding.encoding l.s l.at)) ≡ every (is_value_in l.edition (parameter_at l.q)) (items next_value (rest g.E.Encoding.encoding l.s l.c))
 
 abbrev pub decreases-loop-v : goal.decreases-loop-v
-decreases-loop-v l = 4 * length l.s - l.c
+decreases-loop-v g l = 4 * length l.s - l.c

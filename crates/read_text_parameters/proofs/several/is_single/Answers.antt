@@ -5,7 +5,7 @@ use Rattle.read_text_line.specs.Cursor.{there}
 use Rattle.read_text_parameters.proofs.several.is_single.Goals as goal
 
 pub returns-in_default : goal.returns-in_default
-returns-in_default c = single_none c.requires c.param_value.ensures (ap there c.in_default.is)
+returns-in_default g c = single_none g.met.E.Cuttable.cut c.param_value.ensures (ap there c.in_default.is)
 
 pub returns : goal.returns
-returns c = single_first c.requires c.param_value.ensures (ap there c.in-Ok.is) c.is_last.ensures
+returns g c = single_first g.met.E.Cuttable.cut c.param_value.ensures (ap there c.in-Ok.is) c.is_last.ensures

@@ -3,7 +3,7 @@ use Prim.Native.Nat.{◌-◌, ◌^◌, ◌<◌}
 use Rattle.read_text_parameters.proofs.twice.first_twice.Given as goal
 
 abbrev pub invariant-loop-i : goal.invariant-loop-i
-invariant-loop-i l = l.i < 2 ^ 64 - 1
+invariant-loop-i g l = l.i < 2 ^ 64 - 1
 
 abbrev pub decreases-loop-i : goal.decreases-loop-i
-decreases-loop-i l = l.n - l.i
+decreases-loop-i g l = l.n - l.i

@@ -3,10 +3,10 @@ use Rattle.octets.specs.laws.Pick.{branching}
 use Rattle.read_text_parameters.proofs.walk.is_fit.Goals as goal
 
 pub returns-then-read : goal.returns-then-read
-returns-then-read c = search branching
+returns-then-read g c = let cut = g.met.E.Cuttable.cut in search branching
 
 pub returns-then-permitted : goal.returns-then-permitted
-returns-then-permitted c = search branching
+returns-then-permitted g c = let cut = g.met.E.Cuttable.cut in search branching
 
 pub returns : goal.returns
-returns c = search branching
+returns g c = let cut = g.met.E.Cuttable.cut in search branching

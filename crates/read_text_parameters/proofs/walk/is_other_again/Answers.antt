@@ -3,7 +3,7 @@ use Rattle.octets.specs.laws.Pick.{branching}
 use Rattle.read_text_parameters.proofs.walk.is_other_again.Goals as goal
 
 pub returns-then-k-lt-FEW : goal.returns-then-k-lt-FEW
-returns-then-k-lt-FEW c = search branching
+returns-then-k-lt-FEW g c = let cut = g.met.E.Cuttable.cut in search branching
 
 pub returns : goal.returns
-returns c = search branching
+returns g c = let cut = g.met.E.Cuttable.cut in search branching

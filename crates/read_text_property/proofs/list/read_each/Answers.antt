@@ -6,10 +6,10 @@ use Rattle.read_text_property.specs.laws.ValuesAt.{values_yes, values_no}
 use Rattle.read_text_property.proofs.list.read_each.Goals as goal
 
 pub read_pieces-requires : goal.read_pieces-requires
-read_pieces-requires c = record { cut = c.requires; most = c.if-at-s.true }
+read_pieces-requires g c = record { cut = g.met.E.Cuttable.cut; most = c.if-at-s.true }
 
 pub returns-in_default : goal.returns-in_default
-returns-in_default c = values_no c.args.t (each_gone (type_at c.args.t) c.args.mode c.args.s.now c.args.at c.requires c.if-at-s.false (good_no c.args.t (value_there _ _ _ _ _ c.read_value.ensures (λ h. c.requires)) c.in_default.is))
+returns-in_default g c = values_no c.args.t (each_gone (type_at c.args.t) g.E.Encoding.encoding c.args.s.now c.args.at g.met.E.Cuttable.cut c.if-at-s.false (good_no c.args.t (value_there _ _ _ _ _ c.read_value.ensures (λ h. g.met.E.Cuttable.cut)) c.in_default.is))
 
 pub returns : goal.returns
-returns c = values_yes c.args.t (each_gone (type_at c.args.t) c.args.mode c.args.s.now c.args.at c.requires c.if-at-s.false (good_yes c.args.t (value_there _ _ _ _ _ c.read_value.ensures (λ h. c.requires)) c.in-Some.is))
+returns g c = values_yes c.args.t (each_gone (type_at c.args.t) g.E.Encoding.encoding c.args.s.now c.args.at g.met.E.Cuttable.cut c.if-at-s.false (good_yes c.args.t (value_there _ _ _ _ _ c.read_value.ensures (λ h. g.met.E.Cuttable.cut)) c.in-Some.is))

@@ -8,13 +8,13 @@ use Rattle.read_text_property.specs.laws.ValuesAt.{values_yes, values_no, chosen
 use Rattle.read_text_property.proofs.own.read_chosen.Goals as goal
 
 pub returns-in_default : goal.returns-in_default
-returns-in_default c = values_no c.args.c.value_type (chosen_word _ _ _ c.has_words-closed.ensures c.if-closed.true (word_no (words_at c.args.c.component c.args.c.row.number) (upper (rest c.args.mode c.args.s.now c.args.at)) c.read_word_of.ensures c.in_default.is))
+returns-in_default g c = values_no c.args.c.value_type (chosen_word _ _ _ c.has_words-closed.ensures c.if-closed.true (word_no (words_at c.args.c.component c.args.c.row.number) (upper (rest g.E.Encoding.encoding c.args.s.now c.args.at)) c.read_word_of.ensures c.in_default.is))
 
 pub returns-then-closed : goal.returns-then-closed
-returns-then-closed c = values_yes c.args.c.value_type (chosen_word _ _ _ c.has_words-closed.ensures c.if-closed.true (word_yes (words_at c.args.c.component c.args.c.row.number) (upper (rest c.args.mode c.args.s.now c.args.at)) c.read_word_of.ensures c.in-Some.is))
+returns-then-closed g c = values_yes c.args.c.value_type (chosen_word _ _ _ c.has_words-closed.ensures c.if-closed.true (word_yes (words_at c.args.c.component c.args.c.row.number) (upper (rest g.E.Encoding.encoding c.args.s.now c.args.at)) c.read_word_of.ensures c.in-Some.is))
 
 pub returns-in_default-read_value : goal.returns-in_default-read_value
-returns-in_default-read_value c = values_no c.args.c.value_type (chosen_value _ _ _ c.has_words-closed.ensures c.if-closed.false (good_no c.args.c.value_type (value_there _ _ _ _ _ c.read_value.ensures (λ h. c.requires)) c.in_default-read_value.is))
+returns-in_default-read_value g c = values_no c.args.c.value_type (chosen_value _ _ _ c.has_words-closed.ensures c.if-closed.false (good_no c.args.c.value_type (value_there _ _ _ _ _ c.read_value.ensures (λ h. g.met.E.Cuttable.cut)) c.in_default-read_value.is))
 
 pub returns : goal.returns
-returns c = values_yes c.args.c.value_type (chosen_value _ _ _ c.has_words-closed.ensures c.if-closed.false (good_yes c.args.c.value_type (value_there _ _ _ _ _ c.read_value.ensures (λ h. c.requires)) c.in-Some-read_value.is))
+returns g c = values_yes c.args.c.value_type (chosen_value _ _ _ c.has_words-closed.ensures c.if-closed.false (good_yes c.args.c.value_type (value_there _ _ _ _ _ c.read_value.ensures (λ h. g.met.E.Cuttable.cut)) c.in-Some-read_value.is))

@@ -10,8 +10,5 @@ returns-then-input-gt65535 c = rw c.at.ensures (folded_long c.args.input.now c.a
 pub returns-in_default : goal.returns-in_default
 returns-in_default c = rw c.at-in_default.ensures (folded_edition c.args.input.now c.args.edition (omega arith) (sym c.in_default.is ∙ c.edition_of.ensures))
 
-pub judged-requires : goal.judged-requires
-judged-requires c = refl
-
 pub returns : goal.returns
 returns c = folded_read c.args.input.now c.args.edition c.judged.result (omega arith) (sym c.in-Some.is ∙ c.edition_of.ensures) c.judged.ensures

@@ -5,4 +5,4 @@ use Rattle.recur.specs.laws.Numeral.{numeral_told}
 use Rattle.recur.proofs.number.is_numeral.Goals as goal
 
 pub returns : goal.returns
-returns c = c.is_some.ensures ∙ ap is_some (sym c.numeral_of.ensures) ∙ numeral_told _ _ _
+returns g c = c.is_some.ensures ∙ ap is_some (sym c.numeral_of.ensures) ∙ numeral_told _ _ _

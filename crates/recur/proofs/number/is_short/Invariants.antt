@@ -5,7 +5,7 @@ use lib.ListN.{length}
 use Rattle.recur.proofs.number.is_short.Given as goal
 
 abbrev pub invariant-loop-t : goal.invariant-loop-t
-invariant-loop-t l = Passed l.d l.letters l.mode l.s l.at l.c l.i
+invariant-loop-t g l = Passed l.d l.letters g.E.Encoding.encoding l.s l.at l.c l.i
 
 abbrev pub decreases-loop-t : goal.decreases-loop-t
-decreases-loop-t l = 4 * length l.s - l.c
+decreases-loop-t g l = 4 * length l.s - l.c

@@ -2,4 +2,4 @@
 use Rattle.recur.proofs.number.is_signed.Goals as goal
 
 pub returns : goal.returns
-returns c = rw c.after_sign-c.ensures c.is_unsigned.ensures
+returns g c = rw c.after_sign-c.ensures c.is_unsigned.ensures

@@ -6,7 +6,7 @@ use Prim.Native.Nat.{◌-◌}
 use Rattle.recur.proofs.rule.are_items.Given as goal
 
 abbrev pub invariant-loop-p : goal.invariant-loop-p
-invariant-loop-p l = Left (are_items l.p) 44 l.mode l.s l.at l.c
+invariant-loop-p g l = Left (are_items l.p) 44 g.E.Encoding.encoding l.s l.at l.c
 
 abbrev pub decreases-loop-p : goal.decreases-loop-p
-decreases-loop-p l = length l.s - l.c
+decreases-loop-p g l = length l.s - l.c

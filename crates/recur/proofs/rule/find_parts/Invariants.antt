@@ -5,7 +5,7 @@ use Rattle.recur.specs.laws.NotedLaws.{Walked}
 use Rattle.recur.proofs.rule.find_parts.Given as goal
 
 abbrev pub invariant-loop-begins : goal.invariant-loop-begins
-invariant-loop-begins l = Walked l.mode l.s l.at l.begins l.c
+invariant-loop-begins g l = Walked g.E.Encoding.encoding l.s l.at l.begins l.c
 
 abbrev pub decreases-loop-begins : goal.decreases-loop-begins
-decreases-loop-begins l = length l.s - l.c
+decreases-loop-begins g l = length l.s - l.c

@@ -9,8 +9,8 @@ use Rattle.recur.proofs.rule.part_number.Goals as goal
 
 pub returns-then-w-lt37548788525918789 : goal.returns-then-w-lt37548788525918789
 unfolding find
-returns-then-w-lt37548788525918789 c = by_packs _ part_rows part_rows2 part_names 14 names_packed refl c.pack-w.ensures (search finding depth 12)
+returns-then-w-lt37548788525918789 g c = by_packs _ part_rows part_rows2 part_names 14 names_packed refl c.pack-w.ensures (search finding depth 12)
 
 pub returns : goal.returns
 unfolding find
-returns c = by_packs _ part_rows part_rows2 part_names 14 names_packed refl c.pack-w.ensures (search finding depth 12)
+returns g c = by_packs _ part_rows part_rows2 part_names 14 names_packed refl c.pack-w.ensures (search finding depth 12)

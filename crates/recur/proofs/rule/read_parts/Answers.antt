@@ -3,7 +3,7 @@ use Rattle.recur.specs.laws.NotedLaws.{parts_beyond}
 use Rattle.recur.proofs.rule.read_parts.Goals as goal
 
 pub returns-then-s-at : goal.returns-then-s-at
-returns-then-s-at c = parts_beyond _ _ _ c.requires c.if-s-at.true
+returns-then-s-at g c = parts_beyond _ _ _ g.met.E.Cuttable.cut c.if-s-at.true
 
 pub find_parts-requires : goal.find_parts-requires
-find_parts-requires c = record { cut = c.requires; most = c.if-s-at.false }
+find_parts-requires g c = record { cut = g.met.E.Cuttable.cut; most = c.if-s-at.false }

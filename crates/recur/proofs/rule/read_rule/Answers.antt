@@ -3,4 +3,4 @@ use mathlib.Core.Path.{sym, ◌∙◌}
 use Rattle.recur.proofs.rule.read_rule.Goals as goal
 
 pub returns : goal.returns
-returns c = c.is_some.ensures ∙ sym c.read_parts.ensures.is
+returns g c = c.is_some.ensures ∙ sym c.read_parts.ensures.is

@@ -5,4 +5,4 @@ use Rattle.recur.specs.Parts.{frequencies}
 use Rattle.recur.proofs.word.is_frequency.Goals as goal
 
 pub returns : goal.returns
-returns c = word_found c.args.xcal (rest c.args.mode c.args.s.now c.args.at) frequencies frequencies_are c.find_word.ensures
+returns g c = word_found c.args.xcal (rest g.E.Encoding.encoding c.args.s.now c.args.at) frequencies frequencies_are c.find_word.ensures

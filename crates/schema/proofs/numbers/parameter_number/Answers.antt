@@ -9,12 +9,12 @@ use Rattle.schema.proofs.numbers.parameter_number.Goals as goal
 
 pub returns-then-w-lt6652008112848 : goal.returns-then-w-lt6652008112848
 unfolding find
-returns-then-w-lt6652008112848 c = by_packs _ parameter_rows parameter_rows3 parameter_names 19 parameters_packed refl c.pack-w.ensures (search finding depth 12)
+returns-then-w-lt6652008112848 g c = by_packs _ parameter_rows parameter_rows3 parameter_names 19 parameters_packed refl c.pack-w.ensures (search finding depth 12)
 
 pub returns-then-w-lt925981168003141 : goal.returns-then-w-lt925981168003141
 unfolding find
-returns-then-w-lt925981168003141 c = by_packs _ parameter_rows parameter_rows3 parameter_names 19 parameters_packed refl c.pack-w.ensures (search finding depth 12)
+returns-then-w-lt925981168003141 g c = by_packs _ parameter_rows parameter_rows3 parameter_names 19 parameters_packed refl c.pack-w.ensures (search finding depth 12)
 
 pub returns : goal.returns
 unfolding find
-returns c = by_packs _ parameter_rows parameter_rows3 parameter_names 19 parameters_packed refl c.pack-w.ensures (search finding depth 12)
+returns g c = by_packs _ parameter_rows parameter_rows3 parameter_names 19 parameters_packed refl c.pack-w.ensures (search finding depth 12)

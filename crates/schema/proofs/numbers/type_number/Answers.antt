@@ -4,4 +4,4 @@ use Rattle.schema.specs.laws.Numbers.{type_names_are}
 use Rattle.schema.proofs.numbers.type_number.Goals as goal
 
 pub returns : goal.returns
-returns c = by_table _ type_names_are c.find_word.ensures
+returns g c = by_table _ type_names_are c.find_word.ensures

@@ -5,4 +5,4 @@ use Rattle.schema.specs.laws.Halving.{table_halved}
 use Rattle.schema.proofs.table.row_of.Goals as goal
 
 pub returns : goal.returns
-returns c = c.row_by.ensures ∙ ap row_at (table_halved _ _ _ c.pack-w.ensures)
+returns g c = c.row_by.ensures ∙ ap row_at (table_halved _ _ _ c.pack-w.ensures)

@@ -4,22 +4,22 @@ use Rattle.schema.specs.laws.Sets.{word_missing, stored, set_yes, set_no, word_n
 use Rattle.schema.proofs.words.read_in_set.Goals as goal
 
 pub returns-in_err-n : goal.returns-in_err-n
-returns-in_err-n c = search (rules, word_missing)
+returns-in_err-n g c = search (rules, word_missing)
 
 pub returns-then-n-ge-COUNT : goal.returns-then-n-ge-COUNT
-returns-then-n-ge-COUNT c = word_none _ c.in_ok-n.was c.if-n-ge-COUNT.true
+returns-then-n-ge-COUNT g c = word_none _ c.in_ok-n.was c.if-n-ge-COUNT.true
 
 pub slice_bounds-find_word-count : goal.slice_bounds-find_word-count
-slice_bounds-find_word-count c = (stored _ c.if-n-ge-COUNT.false).rises
+slice_bounds-find_word-count g c = (stored _ c.if-n-ge-COUNT.false).rises
 
 pub slice_bounds-find_word-start : goal.slice_bounds-find_word-start
-slice_bounds-find_word-start c = (stored _ c.if-n-ge-COUNT.false).rises
+slice_bounds-find_word-start g c = (stored _ c.if-n-ge-COUNT.false).rises
 
 pub slice_bounds-find_word-end : goal.slice_bounds-find_word-end
-slice_bounds-find_word-end c = (stored _ c.if-n-ge-COUNT.false).within
+slice_bounds-find_word-end g c = (stored _ c.if-n-ge-COUNT.false).within
 
 pub returns-then-i-n : goal.returns-then-i-n
-returns-then-i-n c = set_yes _ c.in_ok-n.was c.if-n-ge-COUNT.false c.find_word-i.ensures c.if-i-n.true
+returns-then-i-n g c = set_yes _ c.in_ok-n.was c.if-n-ge-COUNT.false c.find_word-i.ensures c.if-i-n.true
 
 pub returns : goal.returns
-returns c = set_no _ c.in_ok-n.was c.if-n-ge-COUNT.false c.find_word-i.ensures c.if-i-n.false
+returns g c = set_no _ c.in_ok-n.was c.if-n-ge-COUNT.false c.find_word-i.ensures c.if-i-n.false

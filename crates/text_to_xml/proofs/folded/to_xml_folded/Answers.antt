@@ -6,7 +6,7 @@ use Rattle.text_to_xml.specs.laws.Steps.{folded_refused, folded_kept}
 use Rattle.text_to_xml.proofs.folded.to_xml_folded.Goals as goal
 
 pub written-requires : goal.written-requires
-written-requires c = (refl, (subst (ReadsFolded _ _) c.in-Ok.is c.read_folded.ensures).short)
+written-requires c = (subst (ReadsFolded _ _) c.in-Ok.is c.read_folded.ensures).short
 
 pub returns-in-Ok : goal.returns-in-Ok
 returns-in-Ok c = folded_kept c.args.input.now c.args.out.now c.args.edition (subst (ReadsFolded _ _) c.in-Ok.is c.read_folded.ensures) c.written.ensures

@@ -8,7 +8,7 @@ use Rattle.texts.specs.Binary.{is_binary, binary_from, binary_chars}
 use Rattle.texts.proofs.binary.read_binary.Given as goal
 
 abbrev pub invariant-loop-t : goal.invariant-loop-t
-invariant-loop-t l = (is_binary (binary_chars (format_of l.xcal) (rest l.mode l.s l.at)) ≡ binary_from l.n l.last (binary_chars (format_of l.xcal) (rest l.mode l.s l.c))) × (l.n ≤ 5)
+invariant-loop-t g l = (is_binary (binary_chars (format_of l.xcal) (rest g.E.Encoding.encoding l.s l.at)) ≡ binary_from l.n l.last (binary_chars (format_of l.xcal) (rest g.E.Encoding.encoding l.s l.c))) × (l.n ≤ 5)
 
 abbrev pub decreases-loop-t : goal.decreases-loop-t
-decreases-loop-t l = 4 * length l.s - l.c
+decreases-loop-t g l = 4 * length l.s - l.c

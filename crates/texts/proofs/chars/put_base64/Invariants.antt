@@ -9,7 +9,7 @@ use Rattle.texts.specs.Binary.{binary_chars}
 use Rattle.texts.proofs.chars.put_base64.Given as goal
 
 abbrev pub invariant-loop-t : goal.invariant-loop-t
-invariant-loop-t l = Todo l.initial.out l.at (binary_chars (format_of l.xcal) (rest l.mode l.s l.from)) l.out l.o (binary_chars (format_of l.xcal) (rest l.mode l.s l.c)) × (length l.out ≡ length l.initial.out)
+invariant-loop-t g l = Todo l.initial.out l.at (binary_chars (format_of l.xcal) (rest g.E.Encoding.encoding l.s l.from)) l.out l.o (binary_chars (format_of l.xcal) (rest g.E.Encoding.encoding l.s l.c)) × (length l.out ≡ length l.initial.out)
 
 abbrev pub decreases-loop-t : goal.decreases-loop-t
-decreases-loop-t l = 4 * length l.s - l.c
+decreases-loop-t g l = 4 * length l.s - l.c

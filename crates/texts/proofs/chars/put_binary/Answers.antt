@@ -3,7 +3,7 @@ use Rattle.texts.specs.laws.Chars.{writing_kept}
 use Rattle.texts.proofs.chars.put_binary.Goals as goal
 
 pub returns-then-read_binary : goal.returns-then-read_binary
-returns-then-read_binary c = search writing_kept
+returns-then-read_binary g c = search writing_kept
 
 pub returns : goal.returns
-returns c = search writing_kept
+returns g c = search writing_kept

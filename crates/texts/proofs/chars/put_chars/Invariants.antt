@@ -9,7 +9,7 @@ use Rattle.texts.specs.Chars.{as_is_byte}
 use Rattle.texts.proofs.chars.put_chars.Given as goal
 
 abbrev pub invariant-loop-t : goal.invariant-loop-t
-invariant-loop-t l = Todo l.initial.out l.at (each as_is_byte (rest l.mode l.s l.from)) l.out l.o (each as_is_byte (rest l.mode l.s l.c)) × (length l.out ≡ length l.initial.out)
+invariant-loop-t g l = Todo l.initial.out l.at (each as_is_byte (rest g.E.Encoding.encoding l.s l.from)) l.out l.o (each as_is_byte (rest g.E.Encoding.encoding l.s l.c)) × (length l.out ≡ length l.initial.out)
 
 abbrev pub decreases-loop-t : goal.decreases-loop-t
-decreases-loop-t l = 4 * length l.s - l.c
+decreases-loop-t g l = 4 * length l.s - l.c

@@ -3,7 +3,7 @@ use Rattle.texts.specs.laws.Chars.{writing_kept}
 use Rattle.texts.proofs.chars.put_unknown_xml.Goals as goal
 
 pub returns-then-read_unknown : goal.returns-then-read_unknown
-returns-then-read_unknown c = search writing_kept
+returns-then-read_unknown g c = search writing_kept
 
 pub returns : goal.returns
-returns c = search writing_kept
+returns g c = search writing_kept

@@ -3,7 +3,7 @@ use Rattle.texts.specs.laws.Chars.{writing_kept}
 use Rattle.texts.proofs.chars.put_uri_xml.Goals as goal
 
 pub returns-then-read_uri : goal.returns-then-read_uri
-returns-then-read_uri c = search writing_kept
+returns-then-read_uri g c = search writing_kept
 
 pub returns : goal.returns
-returns c = search writing_kept
+returns g c = search writing_kept

@@ -5,7 +5,7 @@ use Rattle.texts.specs.laws.Elements.{Listing}
 use Rattle.texts.proofs.elements.put_items_xml.Given as goal
 
 abbrev pub invariant-loop-n : goal.invariant-loop-n
-invariant-loop-n l = Listing l.initial.out l.at l.mode l.s l.from l.out l.o l.c
+invariant-loop-n g l = Listing l.initial.out l.at g.E.Encoding.encoding l.s l.from l.out l.o l.c
 
 abbrev pub decreases-loop-n : goal.decreases-loop-n
-decreases-loop-n l = 4 * length l.s - l.c
+decreases-loop-n g l = 4 * length l.s - l.c

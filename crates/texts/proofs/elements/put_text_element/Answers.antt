@@ -6,7 +6,7 @@ use Rattle.texts.specs.laws.Elements.{put_part}
 use Rattle.texts.proofs.elements.put_text_element.Goals as goal
 
 pub slice_bounds-put_text_xml-end : goal.slice_bounds-put_text_xml-end
-slice_bounds-put_text_xml-end c = simp length-take (omega arith)
+slice_bounds-put_text_xml-end g c = simp length-take (omega arith)
 
 pub returns : goal.returns
-returns c = search (put_part, writing)
+returns g c = search (put_part, writing)

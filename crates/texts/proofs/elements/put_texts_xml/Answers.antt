@@ -4,4 +4,4 @@ use Rattle.texts.specs.laws.Elements.{put_no_texts}
 use Rattle.texts.proofs.elements.put_texts_xml.Goals as goal
 
 pub returns : goal.returns
-returns c = search (put_no_texts, writing)
+returns g c = let cut = g.met.E.Cuttable.cut in search (put_no_texts, writing)

@@ -3,4 +3,4 @@ use Rattle.sink.specs.laws.Sink.{writing}
 use Rattle.texts.proofs.request.put_parts_xml.Goals as goal
 
 pub returns : goal.returns
-returns c = search writing
+returns g c = search writing

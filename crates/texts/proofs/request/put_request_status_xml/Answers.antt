@@ -4,7 +4,7 @@ use Rattle.texts.specs.laws.StatusXml.{put_status, put_no_status}
 use Rattle.texts.proofs.request.put_request_status_xml.Goals as goal
 
 pub returns-in_default : goal.returns-in_default
-returns-in_default c = search (put_no_status, writing)
+returns-in_default g c = let cut = g.met.E.Cuttable.cut in search (put_no_status, writing)
 
 pub returns : goal.returns
-returns c = search (put_status, writing)
+returns g c = let cut = g.met.E.Cuttable.cut in search (put_status, writing)

@@ -4,4 +4,4 @@ use Rattle.texts.specs.laws.Unescaped.{text_alone}
 use Rattle.texts.proofs.text.read_one_text.Goals as goal
 
 pub returns : goal.returns
-returns c = rw text_alone (search rules)
+returns g c = rw text_alone (search rules)

@@ -3,10 +3,10 @@ use Rattle.texts.specs.laws.Kept.{reading_unknown}
 use Rattle.texts.proofs.unknown.read_unknown.Goals as goal
 
 pub returns-then-t-eq-END : goal.returns-then-t-eq-END
-returns-then-t-eq-END c = search reading_unknown
+returns-then-t-eq-END g c = search reading_unknown
 
 pub returns-then-t-eq-LF : goal.returns-then-t-eq-LF
-returns-then-t-eq-LF c = search reading_unknown
+returns-then-t-eq-LF g c = search reading_unknown
 
 pub loop-t-preserved : goal.loop-t-preserved
-loop-t-preserved c = search reading_unknown
+loop-t-preserved g c = search reading_unknown

@@ -8,7 +8,7 @@ use Rattle.texts.specs.Uri.{uri_from}
 use Rattle.texts.proofs.uri.read_after.Given as goal
 
 abbrev pub invariant-loop-t : goal.invariant-loop-t
-invariant-loop-t l = uri_from false (rest l.mode l.s l.from) ≡ uri_from l.past (rest l.mode l.s l.c)
+invariant-loop-t g l = uri_from false (rest g.E.Encoding.encoding l.s l.from) ≡ uri_from l.past (rest g.E.Encoding.encoding l.s l.c)
 
 abbrev pub decreases-loop-t : goal.decreases-loop-t
-decreases-loop-t l = 4 * length l.s - l.c
+decreases-loop-t g l = 4 * length l.s - l.c

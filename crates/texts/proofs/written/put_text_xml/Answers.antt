@@ -4,7 +4,7 @@ use Rattle.texts.specs.laws.Written.{put_read, put_unread}
 use Rattle.texts.proofs.written.put_text_xml.Goals as goal
 
 pub returns-then-read_one_text : goal.returns-then-read_one_text
-returns-then-read_one_text c = search (put_read, writing)
+returns-then-read_one_text g c = search (put_read, writing)
 
 pub returns : goal.returns
-returns c = search (put_unread, writing)
+returns g c = search (put_unread, writing)

@@ -6,10 +6,10 @@ use Rattle.times.specs.laws.DateAlong.{date_ended, date_longer, date_lost}
 use Rattle.times.proofs.date.read_date.Goals as goal
 
 pub returns-in_err-walk : goal.returns-in_err-walk
-returns-in_err-walk c = rw c.from_residual.ensures (date_lost (format_of c.args.xcal) c.follow_date.ensures c.in_err-walk.was)
+returns-in_err-walk g c = rw c.from_residual.ensures (date_lost (format_of c.args.xcal) c.follow_date.ensures c.in_err-walk.was)
 
 pub returns-then-ended : goal.returns-then-ended
-returns-then-ended c = date_ended (format_of c.args.xcal) c.follow_date.ensures c.in_ok-walk.was (flag_yes _ _ c.ended.ensures c.if-ended.true) ∙ c.day_from.ensures
+returns-then-ended g c = date_ended (format_of c.args.xcal) c.follow_date.ensures c.in_ok-walk.was (flag_yes _ _ c.ended.ensures c.if-ended.true) ∙ c.day_from.ensures
 
 pub returns-else-ended : goal.returns-else-ended
-returns-else-ended c = date_longer (format_of c.args.xcal) c.follow_date.ensures c.in_ok-walk.was (flag_no _ _ c.ended.ensures c.if-ended.false)
+returns-else-ended g c = date_longer (format_of c.args.xcal) c.follow_date.ensures c.in_ok-walk.was (flag_no _ _ c.ended.ensures c.if-ended.false)

@@ -5,12 +5,12 @@ use Rattle.times.proofs.duration.days.Goals as goal
 
 pub returns-then-a-eq-UPPER_D : goal.returns-then-a-eq-UPPER_D
 unfolding dur_date
-returns-then-a-eq-UPPER_D c = search counting
+returns-then-a-eq-UPPER_D g c = search counting
 
 pub returns-else-a-eq-UPPER_D : goal.returns-else-a-eq-UPPER_D
 unfolding dur_date
-returns-else-a-eq-UPPER_D c = search counting
+returns-else-a-eq-UPPER_D g c = search counting
 
 pub returns-in-None : goal.returns-in-None
 unfolding dur_date
-returns-in-None c = search counting
+returns-in-None g c = search counting

@@ -5,8 +5,8 @@ use Rattle.times.proofs.duration.is_unsigned.Goals as goal
 
 pub returns-then-a-eq-UPPER_P : goal.returns-then-a-eq-UPPER_P
 unfolding unsigned_duration
-returns-then-a-eq-UPPER_P c = search counting
+returns-then-a-eq-UPPER_P g c = search counting
 
 pub returns-else-a-eq-UPPER_P : goal.returns-else-a-eq-UPPER_P
 unfolding unsigned_duration
-returns-else-a-eq-UPPER_P c = search counting
+returns-else-a-eq-UPPER_P g c = search counting

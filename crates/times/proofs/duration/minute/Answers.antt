@@ -5,12 +5,12 @@ use Rattle.times.proofs.duration.minute.Goals as goal
 
 pub returns-then-a-eq-UPPER_M : goal.returns-then-a-eq-UPPER_M
 unfolding dur_minute
-returns-then-a-eq-UPPER_M c = search counting
+returns-then-a-eq-UPPER_M g c = search counting
 
 pub returns-else-a-eq-UPPER_M : goal.returns-else-a-eq-UPPER_M
 unfolding dur_minute
-returns-else-a-eq-UPPER_M c = search counting
+returns-else-a-eq-UPPER_M g c = search counting
 
 pub returns-in-None : goal.returns-in-None
 unfolding dur_minute
-returns-in-None c = search counting
+returns-in-None g c = search counting

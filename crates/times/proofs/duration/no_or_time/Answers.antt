@@ -3,7 +3,7 @@ use Rattle.times.specs.laws.DurationAt.{counting}
 use Rattle.times.proofs.duration.no_or_time.Goals as goal
 
 pub returns-then-ended : goal.returns-then-ended
-returns-then-ended c = search counting
+returns-then-ended g c = search counting
 
 pub returns-else-ended : goal.returns-else-ended
-returns-else-ended c = search counting
+returns-else-ended g c = search counting

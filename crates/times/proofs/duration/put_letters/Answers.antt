@@ -3,10 +3,10 @@ use Rattle.times.specs.laws.DurationAt.{copying}
 use Rattle.times.proofs.duration.put_letters.Goals as goal
 
 pub loop-a-init : goal.loop-a-init
-loop-a-init c = search copying
+loop-a-init g c = search copying
 
 pub returns-then-a-eq-END : goal.returns-then-a-eq-END
-returns-then-a-eq-END c = search copying
+returns-then-a-eq-END g c = search copying
 
 pub loop-a-preserved : goal.loop-a-preserved
-loop-a-preserved c = search copying
+loop-a-preserved g c = search copying

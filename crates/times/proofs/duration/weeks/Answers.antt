@@ -5,12 +5,12 @@ use Rattle.times.proofs.duration.weeks.Goals as goal
 
 pub returns-then-a-eq-UPPER_W : goal.returns-then-a-eq-UPPER_W
 unfolding dur_week
-returns-then-a-eq-UPPER_W c = search counting
+returns-then-a-eq-UPPER_W g c = search counting
 
 pub returns-else-a-eq-UPPER_W : goal.returns-else-a-eq-UPPER_W
 unfolding dur_week
-returns-else-a-eq-UPPER_W c = search counting
+returns-else-a-eq-UPPER_W g c = search counting
 
 pub returns-in-None : goal.returns-in-None
 unfolding dur_week
-returns-in-None c = search counting
+returns-in-None g c = search counting

@@ -3,16 +3,16 @@ use Rattle.times.specs.laws.Followed.{following}
 use Rattle.times.proofs.follow.follow.Goals as goal
 
 pub loop-i-init : goal.loop-i-init
-loop-i-init c = search following
+loop-i-init g c = search following
 
 pub tallied-number-requires : goal.tallied-number-requires
-tallied-number-requires c = search following
+tallied-number-requires g c = search following
 
 pub loop-i-preserved : goal.loop-i-preserved
-loop-i-preserved c = search following
+loop-i-preserved g c = search following
 
 pub returns-then-not-passing : goal.returns-then-not-passing
-returns-then-not-passing c = search following
+returns-then-not-passing g c = search following
 
 pub returns : goal.returns
-returns c = search following
+returns g c = search following

@@ -3,4 +3,4 @@ use Rattle.times.specs.laws.Letters.{lettering}
 use Rattle.times.proofs.letters.ended.Goals as goal
 
 pub returns : goal.returns
-returns c = search lettering
+returns g c = search lettering

@@ -3,7 +3,7 @@ use Rattle.times.specs.laws.Letters.{lettering}
 use Rattle.times.proofs.letters.letter.Goals as goal
 
 pub returns-then-exact : goal.returns-then-exact
-returns-then-exact c = search lettering
+returns-then-exact g c = search lettering
 
 pub returns : goal.returns
-returns c = search lettering
+returns g c = search lettering

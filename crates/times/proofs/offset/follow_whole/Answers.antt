@@ -3,10 +3,10 @@ use Rattle.times.specs.laws.OffsetAlong.{wholly}
 use Rattle.times.proofs.offset.follow_whole.Goals as goal
 
 pub returns-in_err-walk : goal.returns-in_err-walk
-returns-in_err-walk c = search wholly
+returns-in_err-walk g c = search wholly
 
 pub returns-then-ended : goal.returns-then-ended
-returns-then-ended c = search wholly
+returns-then-ended g c = search wholly
 
 pub returns-else-ended : goal.returns-else-ended
-returns-else-ended c = search wholly
+returns-else-ended g c = search wholly

@@ -4,4 +4,4 @@ use Rattle.times.specs.laws.OffsetAlong.{minus_here}
 use Rattle.times.proofs.offset.minus_at.Goals as goal
 
 pub returns : goal.returns
-returns c = search (minus_here, rules)
+returns g c = search (minus_here, rules)

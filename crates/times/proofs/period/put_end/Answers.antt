@@ -5,8 +5,8 @@ use Rattle.times.proofs.period.put_end.Goals as goal
 
 pub returns-then-explicit : goal.returns-then-explicit
 unfolding end_bytes
-returns-then-explicit c = search writing
+returns-then-explicit g c = search writing
 
 pub returns-else-explicit : goal.returns-else-explicit
 unfolding end_bytes
-returns-else-explicit c = search writing
+returns-else-explicit g c = search writing

@@ -4,7 +4,7 @@ use Rattle.values.specs.laws.PutValue.{put_truth, put_no_truth}
 use Rattle.values.proofs.put.put_boolean_xml.Goals as goal
 
 pub returns-in-Some : goal.returns-in-Some
-returns-in-Some c = put_truth _ c.read_boolean.ensures c.in-Some.is c.put_boolean.ensures
+returns-in-Some g c = put_truth _ c.read_boolean.ensures c.in-Some.is c.put_boolean.ensures
 
 pub returns-in-None : goal.returns-in-None
-returns-in-None c = put_no_truth _ c.read_boolean.ensures c.in-None.is (search writing)
+returns-in-None g c = put_no_truth _ c.read_boolean.ensures c.in-None.is (search writing)

@@ -3,16 +3,16 @@ use Rattle.values.specs.laws.PutValue.{placing, put_date, put_date_time, put_dur
 use Rattle.values.proofs.put.put_from_date.Goals as goal
 
 pub returns-then-t-eq-DATE : goal.returns-then-t-eq-DATE
-returns-then-t-eq-DATE c = search (put_date, placing)
+returns-then-t-eq-DATE g c = search (put_date, placing)
 
 pub returns-then-t-eq-DATE_TIME : goal.returns-then-t-eq-DATE_TIME
-returns-then-t-eq-DATE_TIME c = search (put_date_time, placing)
+returns-then-t-eq-DATE_TIME g c = search (put_date_time, placing)
 
 pub returns-then-t-eq-DURATION : goal.returns-then-t-eq-DURATION
-returns-then-t-eq-DURATION c = search (put_duration, placing)
+returns-then-t-eq-DURATION g c = search (put_duration, placing)
 
 pub returns-then-t-eq-FLOAT : goal.returns-then-t-eq-FLOAT
-returns-then-t-eq-FLOAT c = search (put_float, placing)
+returns-then-t-eq-FLOAT g c = search (put_float, placing)
 
 pub returns : goal.returns
-returns c = search placing
+returns g c = search placing

@@ -3,13 +3,13 @@ use Rattle.values.specs.laws.PutValue.{placing, put_offset, put_time, put_unknow
 use Rattle.values.proofs.put.put_from_time.Goals as goal
 
 pub returns-then-t-eq-TIME : goal.returns-then-t-eq-TIME
-returns-then-t-eq-TIME c = search (put_time, placing)
+returns-then-t-eq-TIME g c = search (put_time, placing)
 
 pub returns-then-t-eq-URI : goal.returns-then-t-eq-URI
-returns-then-t-eq-URI c = search (put_uri, placing)
+returns-then-t-eq-URI g c = search (put_uri, placing)
 
 pub returns-then-t-eq-UTC_OFFSET : goal.returns-then-t-eq-UTC_OFFSET
-returns-then-t-eq-UTC_OFFSET c = search (put_offset, placing)
+returns-then-t-eq-UTC_OFFSET g c = search (put_offset, placing)
 
 pub returns : goal.returns
-returns c = search (put_unknown, placing)
+returns g c = search (put_unknown, placing)

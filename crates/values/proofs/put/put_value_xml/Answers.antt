@@ -4,4 +4,4 @@ use Rattle.values.specs.laws.PutValue.{put_value}
 use Rattle.values.proofs.put.put_value_xml.Goals as goal
 
 pub returns : goal.returns
-returns c = search (put_value, writing)
+returns g c = search (put_value, writing)

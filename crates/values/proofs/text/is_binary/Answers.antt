@@ -3,4 +3,4 @@ use Rattle.values.specs.laws.ValueAt.{binary_is}
 use Rattle.values.proofs.text.is_binary.Goals as goal
 
 pub returns : goal.returns
-returns c = binary_is _ _ c.read_binary.ensures
+returns g c = binary_is _ _ c.read_binary.ensures

@@ -3,4 +3,4 @@ use Rattle.values.specs.laws.ValueAt.{address_is}
 use Rattle.values.proofs.text.is_cal_address.Goals as goal
 
 pub returns : goal.returns
-returns c = address_is _ _ c.read_uri.ensures
+returns g c = address_is _ _ c.read_uri.ensures

@@ -1,21 +1,17 @@
 -- `values::text::is_recur` meets its contract.
-use Rattle.values.specs.laws.ValueAt.{recur_xml, recur_is, recur_no, cuts_plain, cuts_folded}
+use Rattle.std.proofs.Common.{sym, ap, ◌∙◌, refl, Some}
+use Rattle.source.specs.laws.Facts.{cut_plain, cut_folded, cut_none}
+use Rattle.values.specs.laws.ValueAt.{recur_xml, recur_is, recur_uncut}
 use Rattle.values.proofs.text.is_recur.Goals as goal
 
 pub returns-then-xcal : goal.returns-then-xcal
-returns-then-xcal c = recur_xml _ _ c.if-xcal.true
+returns-then-xcal g c = recur_xml _ _ c.if-xcal.true
 
-pub read_rule-requires : goal.read_rule-requires
-read_rule-requires c = cuts_plain _ c.if-mode-eq0.true
+pub returns-in-Some-Plain : goal.returns-in-Some-Plain
+returns-in-Some-Plain g c = let m = cut_plain _ (sym c.cut.ensures ∙ c.in-Some-Plain.is ∙ ap Some c.in-Some-Plain.field-0-is) in recur_is _ _ c.if-xcal.false (rw m refl) (c.read_rule.ensures ∙ rw m refl)
 
-pub returns-then-mode-eq0 : goal.returns-then-mode-eq0
-returns-then-mode-eq0 c = recur_is _ _ c.if-xcal.false (cuts_plain _ c.if-mode-eq0.true) c.read_rule.ensures
+pub returns-in-Some-Folded : goal.returns-in-Some-Folded
+returns-in-Some-Folded g c = let m = cut_folded _ (sym c.cut.ensures ∙ c.in-Some-Folded.is ∙ ap Some c.in-Some-Folded.field-0-is) in recur_is _ _ c.if-xcal.false (rw m refl) (c.read_rule-in-Some-Folded.ensures ∙ rw m refl)
 
-pub read_rule-requires-then-mode-eq2 : goal.read_rule-requires-then-mode-eq2
-read_rule-requires-then-mode-eq2 c = cuts_folded _ c.if-mode-eq2.true
-
-pub returns-then-mode-eq2 : goal.returns-then-mode-eq2
-returns-then-mode-eq2 c = recur_is _ _ c.if-xcal.false (cuts_folded _ c.if-mode-eq2.true) c.read_rule-then-mode-eq2.ensures
-
-pub returns : goal.returns
-returns c = recur_no _ _ c.if-xcal.false c.if-mode-eq0.false c.if-mode-eq2.false
+pub returns-in-None : goal.returns-in-None
+returns-in-None g c = recur_uncut _ _ c.if-xcal.false (cut_none _ (sym c.cut.ensures ∙ c.in-None.is))

@@ -3,7 +3,7 @@ use Rattle.values.specs.laws.ValueAt.{text_xml, text_is}
 use Rattle.values.proofs.text.is_text.Goals as goal
 
 pub returns-then-xcal : goal.returns-then-xcal
-returns-then-xcal c = text_xml _ c.if-xcal.true
+returns-then-xcal g c = text_xml _ c.if-xcal.true
 
 pub returns : goal.returns
-returns c = text_is _ c.if-xcal.false c.read_one_text.ensures
+returns g c = text_is _ c.if-xcal.false c.read_one_text.ensures

@@ -3,4 +3,4 @@ use Rattle.values.specs.laws.ValueAt.{unknown_is}
 use Rattle.values.proofs.text.is_unknown.Goals as goal
 
 pub returns : goal.returns
-returns c = unknown_is _ _ c.read_unknown.ensures
+returns g c = unknown_is _ _ c.read_unknown.ensures

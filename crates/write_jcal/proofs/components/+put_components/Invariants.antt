@@ -9,10 +9,10 @@ use Rattle.write_jcal.proofs.Walking.{Walking, inner, inners, inner_at_bare, inn
 use Rattle.write_jcal.proofs.components.+put_components.Given as goal
 
 abbrev pub decreases-put_components : goal.decreases-put_components
-decreases-put_components l = l.left
+decreases-put_components g l = l.left
 
 abbrev pub invariant-loop-at : goal.invariant-loop-at
-invariant-loop-at l = Walking l.edition false (inner l.left) l.mode l.s l.from l.initial.out l.o l.out l.p l.started l.at
+invariant-loop-at g l = Walking l.edition false (inner l.left) g.E.Encoding.encoding l.s l.from l.initial.out l.o l.out l.p l.started l.at
 
 abbrev pub decreases-loop-at : goal.decreases-loop-at
-decreases-loop-at l = length l.s - l.at
+decreases-loop-at g l = length l.s - l.at

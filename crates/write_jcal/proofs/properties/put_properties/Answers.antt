@@ -4,7 +4,7 @@ use Rattle.write_jcal.specs.laws.Places.{leading_bare, leading_more}
 use Rattle.write_jcal.proofs.properties.put_properties.Goals as goal
 
 pub returns-then-ahead : goal.returns-then-ahead
-returns-then-ahead c = search (leading_bare, rules)
+returns-then-ahead g c = search (leading_bare, rules)
 
 pub returns : goal.returns
-returns c = search (leading_more, rules)
+returns g c = search (leading_more, rules)

@@ -9,7 +9,7 @@ use Rattle.write_jcal_parameters.specs.Shown.{members_shown}
 use Rattle.write_jcal_parameters.proofs.line.put_each.Given as goal
 
 abbrev pub invariant-loop-p : goal.invariant-loop-p
-invariant-loop-p l = Listing false (members_shown (params_in l.edition l.mode l.s l.at)) l.initial.out l.o l.out l.q l.started (members_shown (params_in l.edition l.mode l.s l.c))
+invariant-loop-p g l = Listing false (members_shown (params_in l.edition g.E.Encoding.encoding l.s l.at)) l.initial.out l.o l.out l.q l.started (members_shown (params_in l.edition g.E.Encoding.encoding l.s l.c))
 
 abbrev pub decreases-loop-p : goal.decreases-loop-p
-decreases-loop-p l = 4 * length l.s - l.c
+decreases-loop-p g l = 4 * length l.s - l.c

@@ -3,16 +3,16 @@ use Rattle.sink.specs.laws.Sink.{writing}
 use Rattle.write_jcal_parameters.proofs.line.put_object.Goals as goal
 
 pub put-a-requires : goal.put-a-requires
-put-a-requires c = search writing
+put-a-requires g c = let cut = g.met.E.Cuttable.cut in search writing
 
 pub put_each-b-requires : goal.put_each-b-requires
-put_each-b-requires c = search writing
+put_each-b-requires g c = let cut = g.met.E.Cuttable.cut in search writing
 
 pub put-requires : goal.put-requires
-put-requires c = search writing
+put-requires g c = let cut = g.met.E.Cuttable.cut in search writing
 
 pub shape_of-out : goal.shape_of-out
-shape_of-out c = search writing
+shape_of-out g c = let cut = g.met.E.Cuttable.cut in search writing
 
 pub returns : goal.returns
-returns c = search writing
+returns g c = let cut = g.met.E.Cuttable.cut in search writing

@@ -4,19 +4,19 @@ use Rattle.sink.specs.laws.Sink.{writing}
 use Rattle.write_jcal_parameters.proofs.parameter.put_parameter.Goals as goal
 
 pub parameter_number-q-requires : goal.parameter_number-q-requires
-parameter_number-q-requires c = search writing
+parameter_number-q-requires g c = let cut = g.met.E.Cuttable.cut in search writing
 
 pub put_small_quoted-a-requires : goal.put_small_quoted-a-requires
-put_small_quoted-a-requires c = search writing
+put_small_quoted-a-requires g c = let cut = g.met.E.Cuttable.cut in search writing
 
 pub put-b-requires : goal.put-b-requires
-put-b-requires c = search writing
+put-b-requires g c = let cut = g.met.E.Cuttable.cut in search writing
 
 pub put_values-requires : goal.put_values-requires
-put_values-requires c = search writing
+put_values-requires g c = let cut = g.met.E.Cuttable.cut in search writing
 
 pub shape_of-out : goal.shape_of-out
-shape_of-out c = search writing
+shape_of-out g c = let cut = g.met.E.Cuttable.cut in search writing
 
 pub returns : goal.returns
-returns c = search (put_parameter, writing)
+returns g c = let cut = g.met.E.Cuttable.cut in search (put_parameter, writing)

@@ -2,23 +2,21 @@
 use native.Mathlib.Omega.{arith}
 use lib.ListN.{length-take}
 use Rattle.sink.specs.laws.Sink.{writing}
+use Rattle.source.specs.laws.Facts.{decodes_same, decodes_over, decodes_when}
 use Rattle.write_jcal_parameters.specs.laws.Parts.{least_value}
 use Rattle.write_jcal_parameters.proofs.value.put_cut_value.Goals as goal
 
 pub smaller-e-requires : goal.smaller-e-requires
-smaller-e-requires c = search writing
-
-pub value_mode-m-requires : goal.value_mode-m-requires
-value_mode-m-requires c = search writing
+smaller-e-requires g c = let cut = g.met.E.Cuttable.cut in search writing
 
 pub slice_bounds-put_value-end : goal.slice_bounds-put_value-end
-slice_bounds-put_value-end c = simp length-take (omega arith)
+slice_bounds-put_value-end g c = simp length-take (omega arith)
 
 pub put_value-requires : goal.put_value-requires
-put_value-requires c = search writing
+put_value-requires g c = let cut = g.met.E.Cuttable.cut in search writing
 
-pub shape_of-out : goal.shape_of-out
-shape_of-out c = search writing
+pub returns-in-Rfc5545 : goal.returns-in-Rfc5545
+returns-in-Rfc5545 g c = let decodes = decodes_when c.in-Rfc5545.is (decodes_same g.E.Encoding.encoding) in search (least_value, writing)
 
-pub returns : goal.returns
-returns c = search (least_value, writing)
+pub returns-in-Rfc6868 : goal.returns-in-Rfc6868
+returns-in-Rfc6868 g c = let decodes = decodes_when c.in-Rfc6868.is (decodes_over g.E.Encoding.encoding g.met.E.Cuttable.cut) in search (least_value, writing)

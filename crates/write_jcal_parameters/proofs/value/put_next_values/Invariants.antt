@@ -12,7 +12,7 @@ use Rattle.write_jcal_parameters.specs.Shown.{chars_in, row_at}
 use Rattle.write_jcal_parameters.proofs.value.put_next_values.Given as goal
 
 abbrev pub invariant-loop-v : goal.invariant-loop-v
-invariant-loop-v l = Listing true (map (chars_in l.edition (row_at l.q)) (items next_value (rest l.mode l.s l.at))) l.initial.out l.o l.out l.p true (map (chars_in l.edition (row_at l.q)) (items next_value (rest l.mode l.s l.c)))
+invariant-loop-v g l = Listing true (map (chars_in l.edition (row_at l.q)) (items next_value (rest g.E.Encoding.encoding l.s l.at))) l.initial.out l.o l.out l.p true (map (chars_in l.edition (row_at l.q)) (items next_value (rest g.E.Encoding.encoding l.s l.c)))
 
 abbrev pub decreases-loop-v : goal.decreases-loop-v
-decreases-loop-v l = 4 * length l.s - l.c
+decreases-loop-v g l = 4 * length l.s - l.c

@@ -3,13 +3,13 @@ use Rattle.sink.specs.laws.Sink.{writing}
 use Rattle.write_jcal_property.proofs.geo.put_latitude.Goals as goal
 
 pub put-a-requires : goal.put-a-requires
-put-a-requires c = search writing
+put-a-requires g c = search writing
 
 pub put_float_to-requires : goal.put_float_to-requires
-put_float_to-requires c = search writing
+put_float_to-requires g c = search writing
 
 pub shape_of-out : goal.shape_of-out
-shape_of-out c = search writing
+shape_of-out g c = search writing
 
 pub returns : goal.returns
-returns c = search writing
+returns g c = search writing

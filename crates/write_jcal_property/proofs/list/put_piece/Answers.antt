@@ -5,13 +5,13 @@ use Rattle.sink.specs.laws.Sink.{writing}
 use Rattle.write_jcal_property.proofs.list.put_piece.Goals as goal
 
 pub slice_bounds-put_value_json-end : goal.slice_bounds-put_value_json-end
-slice_bounds-put_value_json-end c = search (length-take-le, rules)
+slice_bounds-put_value_json-end g c = let cut = g.met.E.Cuttable.cut in search (length-take-le, rules)
 
 pub put_value_json-requires : goal.put_value_json-requires
-put_value_json-requires c = search writing
+put_value_json-requires g c = let cut = g.met.E.Cuttable.cut in search writing
 
 pub shape_of-out : goal.shape_of-out
-shape_of-out c = search writing
+shape_of-out g c = let cut = g.met.E.Cuttable.cut in search writing
 
 pub returns : goal.returns
-returns c = search writing
+returns g c = let cut = g.met.E.Cuttable.cut in search writing

@@ -10,28 +10,28 @@ use Rattle.write_jcal_property.specs.laws.Pieces.{put_pieces}
 use Rattle.write_jcal_property.proofs.list.put_pieces.Goals as goal
 
 pub loop-n-init : goal.loop-n-init
-loop-n-init c = search (piecing_start, writing)
+loop-n-init g c = search (piecing_start, writing)
 
 pub byte_end-e-requires : goal.byte_end-e-requires
-byte_end-e-requires c = c.loop-n.invariant.inside
+byte_end-e-requires g c = c.loop-n.invariant.inside
 
 pub put_piece-a-requires : goal.put_piece-a-requires
-put_piece-a-requires c = search writing
+put_piece-a-requires g c = search writing
 
 pub unit-n-requires : goal.unit-n-requires
-unit-n-requires c = search writing
+unit-n-requires g c = search writing
 
 pub shape_of-out-then-u-eq-END : goal.shape_of-out-then-u-eq-END
-shape_of-out-then-u-eq-END c = search writing
+shape_of-out-then-u-eq-END g c = search writing
 
 pub returns-then-u-eq-END : goal.returns-then-u-eq-END
-returns-then-u-eq-END c = search (put_pieces, piecing_end, writing)
+returns-then-u-eq-END g c = search (put_pieces, piecing_end, writing)
 
 pub put-o-requires : goal.put-o-requires
-put-o-requires c = search writing
+put-o-requires g c = search writing
 
 pub loop-n-smaller : goal.loop-n-smaller
-loop-n-smaller c = search (pieces_less, writing)
+loop-n-smaller g c = search (pieces_less, writing)
 
 pub loop-n-preserved : goal.loop-n-preserved
-loop-n-preserved c = search (piecing_more, writing)
+loop-n-preserved g c = search (piecing_more, writing)

@@ -10,7 +10,7 @@ use Rattle.write_jcal_property.specs.laws.Pieces.{put_pieces}
 use Rattle.write_jcal_property.proofs.list.put_pieces.Given as goal
 
 abbrev pub invariant-loop-n : goal.invariant-loop-n
-invariant-loop-n l = Piecing (piece_json (type_at l.t)) l.initial.out l.at l.mode l.s l.from l.out l.o l.c
+invariant-loop-n g l = Piecing (piece_json (type_at l.t)) l.initial.out l.at g.E.Encoding.encoding l.s l.from l.out l.o l.c
 
 abbrev pub decreases-loop-n : goal.decreases-loop-n
-decreases-loop-n l = length l.s - l.c
+decreases-loop-n g l = length l.s - l.c

@@ -6,19 +6,19 @@ use Rattle.sink.specs.laws.Sink.{writing}
 use Rattle.write_jcal_property.proofs.property.put_stated.Goals as goal
 
 pub slice_bounds-row_of-end : goal.slice_bounds-row_of-end
-slice_bounds-row_of-end c = search (length-take-le, rules)
+slice_bounds-row_of-end g c = let cut = g.met.E.Cuttable.cut in search (length-take-le, rules)
 
 pub row_of-row-requires : goal.row_of-row-requires
-row_of-row-requires c = search writing
+row_of-row-requires g c = let cut = g.met.E.Cuttable.cut in search writing
 
 pub stated_type-requires : goal.stated_type-requires
-stated_type-requires c = search writing
+stated_type-requires g c = let cut = g.met.E.Cuttable.cut in search writing
 
 pub put_values-requires : goal.put_values-requires
-put_values-requires c = search writing
+put_values-requires g c = let cut = g.met.E.Cuttable.cut in search writing
 
 pub shape_of-out : goal.shape_of-out
-shape_of-out c = search writing
+shape_of-out g c = let cut = g.met.E.Cuttable.cut in search writing
 
 pub returns : goal.returns
-returns c = put_stated c.args.k _ c.args.l.value c.row_of-row.ensures c.stated_type.ensures c.unwrap_or-stated.ensures c.put_values.ensures
+returns g c = put_stated c.args.k _ c.args.l.value c.row_of-row.ensures c.stated_type.ensures c.unwrap_or-stated.ensures c.put_values.ensures

@@ -4,22 +4,22 @@ use Rattle.sink.specs.laws.Sink.{writing}
 use Rattle.write_jcal_property.proofs.shown.put_single.Goals as goal
 
 pub has_words-chosen-requires : goal.has_words-chosen-requires
-has_words-chosen-requires c = search writing
+has_words-chosen-requires g c = let cut = g.met.E.Cuttable.cut in search writing
 
 pub put_capitals_quoted-requires : goal.put_capitals_quoted-requires
-put_capitals_quoted-requires c = search writing
+put_capitals_quoted-requires g c = let cut = g.met.E.Cuttable.cut in search writing
 
 pub shape_of-out-then-chosen : goal.shape_of-out-then-chosen
-shape_of-out-then-chosen c = search writing
+shape_of-out-then-chosen g c = let cut = g.met.E.Cuttable.cut in search writing
 
 pub returns-then-chosen : goal.returns-then-chosen
-returns-then-chosen c = search (flag_yes, writing)
+returns-then-chosen g c = let cut = g.met.E.Cuttable.cut in search (flag_yes, writing)
 
 pub put_value_json-requires : goal.put_value_json-requires
-put_value_json-requires c = search writing
+put_value_json-requires g c = let cut = g.met.E.Cuttable.cut in search writing
 
 pub shape_of-out : goal.shape_of-out
-shape_of-out c = search writing
+shape_of-out g c = let cut = g.met.E.Cuttable.cut in search writing
 
 pub returns : goal.returns
-returns c = search (flag_no, writing)
+returns g c = let cut = g.met.E.Cuttable.cut in search (flag_no, writing)

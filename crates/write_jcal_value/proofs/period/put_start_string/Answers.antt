@@ -3,16 +3,16 @@ use Rattle.sink.specs.laws.Sink.{writing}
 use Rattle.write_jcal_value.proofs.period.put_start_string.Goals as goal
 
 pub put_all-p-requires : goal.put_all-p-requires
-put_all-p-requires c = search writing
+put_all-p-requires g c = search writing
 
 pub put_period_start-q-requires : goal.put_period_start-q-requires
-put_period_start-q-requires c = search writing
+put_period_start-q-requires g c = search writing
 
 pub put-requires : goal.put-requires
-put-requires c = search writing
+put-requires g c = search writing
 
 pub shape_of-out : goal.shape_of-out
-shape_of-out c = search writing
+shape_of-out g c = search writing
 
 pub returns : goal.returns
-returns c = search writing
+returns g c = search writing

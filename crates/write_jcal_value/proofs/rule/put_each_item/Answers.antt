@@ -10,31 +10,31 @@ use Rattle.write_jcal_value.specs.laws.Pieces.{Piecing, piecing_start, piecing_m
 use Rattle.write_jcal_value.proofs.rule.put_each_item.Goals as goal
 
 pub loop-n-init : goal.loop-n-init
-loop-n-init c = search (piecing_start, writing)
+loop-n-init g c = search (piecing_start, writing)
 
 pub byte_end-e-requires : goal.byte_end-e-requires
-byte_end-e-requires c = c.loop-n.invariant.inside
+byte_end-e-requires g c = c.loop-n.invariant.inside
 
 pub slice_bounds-put_item_json-end : goal.slice_bounds-put_item_json-end
-slice_bounds-put_item_json-end c = cut_count c.byte_end-e.ensures
+slice_bounds-put_item_json-end g c = cut_count c.byte_end-e.ensures
 
 pub put_item_json-a-requires : goal.put_item_json-a-requires
-put_item_json-a-requires c = search writing
+put_item_json-a-requires g c = search writing
 
 pub unit-n-requires : goal.unit-n-requires
-unit-n-requires c = search writing
+unit-n-requires g c = search writing
 
 pub shape_of-out-then-u-eq-END : goal.shape_of-out-then-u-eq-END
-shape_of-out-then-u-eq-END c = search writing
+shape_of-out-then-u-eq-END g c = search writing
 
 pub returns-then-u-eq-END : goal.returns-then-u-eq-END
-returns-then-u-eq-END c = search (piecing_end, writing)
+returns-then-u-eq-END g c = search (piecing_end, writing)
 
 pub put-q-requires : goal.put-q-requires
-put-q-requires c = search writing
+put-q-requires g c = search writing
 
 pub loop-n-smaller : goal.loop-n-smaller
-loop-n-smaller c = search (pieces_less, writing)
+loop-n-smaller g c = search (pieces_less, writing)
 
 pub loop-n-preserved : goal.loop-n-preserved
-loop-n-preserved c = search (piecing_more, writing)
+loop-n-preserved g c = search (piecing_more, writing)

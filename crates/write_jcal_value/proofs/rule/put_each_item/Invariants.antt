@@ -10,7 +10,7 @@ use Rattle.write_jcal_value.specs.laws.Pieces.{Piecing, piecing_start, piecing_m
 use Rattle.write_jcal_value.proofs.rule.put_each_item.Given as goal
 
 abbrev pub invariant-loop-n : goal.invariant-loop-n
-invariant-loop-n l = Piecing (item_shown (get_or part_names l.p [])) l.initial.out l.o l.mode l.s l.at l.out l.q l.c
+invariant-loop-n g l = Piecing (item_shown (get_or part_names l.p [])) l.initial.out l.o g.E.Encoding.encoding l.s l.at l.out l.q l.c
 
 abbrev pub decreases-loop-n : goal.decreases-loop-n
-decreases-loop-n l = length l.s - l.c
+decreases-loop-n g l = length l.s - l.c

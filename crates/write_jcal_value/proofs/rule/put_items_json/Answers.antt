@@ -5,34 +5,34 @@ use Rattle.write_jcal_value.specs.laws.PutRule.{put_one, put_array}
 use Rattle.write_jcal_value.proofs.rule.put_items_json.Goals as goal
 
 pub byte_end-e-requires : goal.byte_end-e-requires
-byte_end-e-requires c = search writing
+byte_end-e-requires g c = search writing
 
 pub unit-n-requires : goal.unit-n-requires
-unit-n-requires c = search writing
+unit-n-requires g c = search writing
 
 pub slice_bounds-put_item_json-end : goal.slice_bounds-put_item_json-end
-slice_bounds-put_item_json-end c = search (cut_count, writing)
+slice_bounds-put_item_json-end g c = search (cut_count, writing)
 
 pub put_item_json-requires : goal.put_item_json-requires
-put_item_json-requires c = search writing
+put_item_json-requires g c = search writing
 
 pub shape_of-out-then-u-eq-END : goal.shape_of-out-then-u-eq-END
-shape_of-out-then-u-eq-END c = search writing
+shape_of-out-then-u-eq-END g c = search writing
 
 pub returns-then-u-eq-END : goal.returns-then-u-eq-END
-returns-then-u-eq-END c = search (put_one, writing)
+returns-then-u-eq-END g c = search (put_one, writing)
 
 pub put-a-requires : goal.put-a-requires
-put-a-requires c = search writing
+put-a-requires g c = search writing
 
 pub put_each_item-b-requires : goal.put_each_item-b-requires
-put_each_item-b-requires c = search writing
+put_each_item-b-requires g c = search writing
 
 pub put-requires : goal.put-requires
-put-requires c = search writing
+put-requires g c = search writing
 
 pub shape_of-out : goal.shape_of-out
-shape_of-out c = search writing
+shape_of-out g c = search writing
 
 pub returns : goal.returns
-returns c = search (put_array, writing)
+returns g c = search (put_array, writing)

@@ -5,32 +5,32 @@ use Rattle.write_jcal_value.proofs.rule.put_parts_json.Goals as goal
 use Rattle.write_jcal_value.proofs.rule.put_parts_json.Goals.{in-Some, in_default}
 
 pub loop-p-init : goal.loop-p-init
-loop-p-init c = search (parts_start, writing)
+loop-p-init g c = let cut = g.met.E.Cuttable.cut in search (parts_start, writing)
 
 pub offset_bounds-begins-p : goal.offset_bounds-begins-p
-offset_bounds-begins-p c = search writing
+offset_bounds-begins-p g c = let cut = g.met.E.Cuttable.cut in search writing
 
 pub bounds-begins-p : goal.bounds-begins-p
-bounds-begins-p c = search writing
+bounds-begins-p g c = let cut = g.met.E.Cuttable.cut in search writing
 
 pub put_part_json-q-requires : goal.put_part_json-q-requires
-put_part_json-q-requires c = noted_within c.requires.0 c.requires.1 _ c.in-Some.is
+put_part_json-q-requires g c = noted_within g.met.E.Cuttable.cut c.requires _ c.in-Some.is
 
 pub overflow_add-p : goal.overflow_add-p
-overflow_add-p c = search writing
+overflow_add-p g c = let cut = g.met.E.Cuttable.cut in search writing
 
 pub loop-p-smaller : goal.loop-p-smaller
-loop-p-smaller c = search writing
+loop-p-smaller g c = let cut = g.met.E.Cuttable.cut in search writing
 
 pub loop-p-preserved : goal.loop-p-preserved
-loop-p-preserved c =
+loop-p-preserved g c =
     elim c.match-begins-p.branch [
-      | in-Some w ↦ rw (w.out-is, w.q-is, w.started-is) (parts_more c.requires.1 c.loop-p.invariant c.loop-p-test.true w.in-Some.is w.put_part_json-q.ensures)
-      | in_default w ↦ rw (w.out-is, w.q-is, w.started-is) (parts_skip c.requires.1 c.loop-p.invariant c.loop-p-test.true w.in_default.is)
+      | in-Some w ↦ rw (w.out-is, w.q-is, w.started-is) (parts_more c.requires c.loop-p.invariant c.loop-p-test.true w.in-Some.is w.put_part_json-q.ensures)
+      | in_default w ↦ rw (w.out-is, w.q-is, w.started-is) (parts_skip c.requires c.loop-p.invariant c.loop-p-test.true w.in_default.is)
     ]
 
 pub shape_of-out : goal.shape_of-out
-shape_of-out c = search writing
+shape_of-out g c = let cut = g.met.E.Cuttable.cut in search writing
 
 pub returns : goal.returns
-returns c = search (parts_end, writing)
+returns g c = let cut = g.met.E.Cuttable.cut in search (parts_end, writing)

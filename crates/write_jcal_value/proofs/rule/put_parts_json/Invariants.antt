@@ -11,7 +11,7 @@ use Rattle.write_jcal_value.specs.laws.PutRule.{left_parts, noted_within, parts_
 use Rattle.write_jcal_value.proofs.rule.put_parts_json.Given as goal
 
 abbrev pub invariant-loop-p : goal.invariant-loop-p
-invariant-loop-p l = Listing false (named_shown part_names (cut_at 59 (rest l.mode l.s l.at))) l.initial.out l.o l.out l.q l.started (left_parts l.mode l.s l.at l.p)
+invariant-loop-p g l = Listing false (named_shown part_names (cut_at 59 (rest g.E.Encoding.encoding l.s l.at))) l.initial.out l.o l.out l.q l.started (left_parts g.E.Encoding.encoding l.s l.at l.p)
 
 abbrev pub decreases-loop-p : goal.decreases-loop-p
-decreases-loop-p l = 14 - l.p
+decreases-loop-p g l = 14 - l.p

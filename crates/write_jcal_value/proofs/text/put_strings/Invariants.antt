@@ -10,7 +10,7 @@ use Rattle.write_jcal_value.specs.laws.Texts.{writing_strings}
 use Rattle.write_jcal_value.proofs.text.put_strings.Given as goal
 
 abbrev pub invariant-loop-t : goal.invariant-loop-t
-invariant-loop-t l = Todo l.initial.out l.at (strings_from false (rest l.mode l.s l.from)) l.out l.o (strings_from l.after (rest l.mode l.s l.c)) × (length l.out ≡ length l.initial.out)
+invariant-loop-t g l = Todo l.initial.out l.at (strings_from false (rest g.E.Encoding.encoding l.s l.from)) l.out l.o (strings_from l.after (rest g.E.Encoding.encoding l.s l.c)) × (length l.out ≡ length l.initial.out)
 
 abbrev pub decreases-loop-t : goal.decreases-loop-t
-decreases-loop-t l = 4 * length l.s - l.c
+decreases-loop-t g l = 4 * length l.s - l.c

@@ -4,16 +4,16 @@ use Rattle.write_jcal_value.specs.laws.Texts.{text_alone, put_read, put_unread}
 use Rattle.write_jcal_value.proofs.text.put_text_characters.Goals as goal
 
 pub read_one_text-requires : goal.read_one_text-requires
-read_one_text-requires c = search writing
+read_one_text-requires g c = search writing
 
 pub put_strings-requires : goal.put_strings-requires
-put_strings-requires c = search writing
+put_strings-requires g c = search writing
 
 pub shape_of-out-then-read_one_text : goal.shape_of-out-then-read_one_text
-shape_of-out-then-read_one_text c = search writing
+shape_of-out-then-read_one_text g c = search writing
 
 pub returns-then-read_one_text : goal.returns-then-read_one_text
-returns-then-read_one_text c = search (put_read, text_alone, writing)
+returns-then-read_one_text g c = search (put_read, text_alone, writing)
 
 pub returns : goal.returns
-returns c = search (put_unread, writing)
+returns g c = search (put_unread, writing)

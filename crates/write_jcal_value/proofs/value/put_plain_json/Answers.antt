@@ -5,13 +5,13 @@ use Rattle.sink.specs.laws.Sink.{writing}
 use Rattle.write_jcal_value.proofs.value.put_plain_json.Goals as goal
 
 pub read_value-requires : goal.read_value-requires
-read_value-requires c = search writing
+read_value-requires g c = search writing
 
 pub put_scalar-requires : goal.put_scalar-requires
-put_scalar-requires c = search writing
+put_scalar-requires g c = search writing
 
 pub returns-in-Some : goal.returns-in-Some
-returns-in-Some c = put_plain c.args.t _ (good_value _ _ (value_plain c.args.t _ _ c.requires.1 c.read_value.ensures)) c.requires.0 c.requires.1 c.in-Some.is c.put_scalar.ensures
+returns-in-Some g c = put_plain c.args.t _ (good_value _ _ (value_plain c.args.t _ _ c.requires.1 c.read_value.ensures)) c.requires.0 c.requires.1 c.in-Some.is c.put_scalar.ensures
 
 pub returns-in-None : goal.returns-in-None
-returns-in-None c = put_no_plain c.args.t _ (good_value _ _ (value_plain c.args.t _ _ c.requires.1 c.read_value.ensures)) c.in-None.is (search writing)
+returns-in-None g c = put_no_plain c.args.t _ (good_value _ _ (value_plain c.args.t _ _ c.requires.1 c.read_value.ensures)) c.in-None.is (search writing)

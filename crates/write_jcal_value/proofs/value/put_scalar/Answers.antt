@@ -4,28 +4,28 @@ use Rattle.sink.specs.laws.Sink.{writing}
 use Rattle.write_jcal_value.proofs.value.put_scalar.Goals as goal
 
 pub stands_bare-bare-requires : goal.stands_bare-bare-requires
-stands_bare-bare-requires c = search writing
+stands_bare-bare-requires g c = search writing
 
 pub put_characters-requires : goal.put_characters-requires
-put_characters-requires c = search writing
+put_characters-requires g c = search writing
 
 pub shape_of-out-then-bare : goal.shape_of-out-then-bare
-shape_of-out-then-bare c = search writing
+shape_of-out-then-bare g c = search writing
 
 pub returns-then-bare : goal.returns-then-bare
-returns-then-bare c = search (flag_yes, writing)
+returns-then-bare g c = search (flag_yes, writing)
 
 pub put-a-requires : goal.put-a-requires
-put-a-requires c = search writing
+put-a-requires g c = search writing
 
 pub put_characters-b-requires : goal.put_characters-b-requires
-put_characters-b-requires c = search writing
+put_characters-b-requires g c = search writing
 
 pub put-requires : goal.put-requires
-put-requires c = search writing
+put-requires g c = search writing
 
 pub shape_of-out : goal.shape_of-out
-shape_of-out c = search writing
+shape_of-out g c = search writing
 
 pub returns : goal.returns
-returns c = search (flag_no, writing)
+returns g c = search (flag_no, writing)

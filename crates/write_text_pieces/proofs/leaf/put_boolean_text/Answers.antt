@@ -4,13 +4,13 @@ use Rattle.write_text_pieces.specs.laws.Leaves.{put_no_truth, put_truth}
 use Rattle.write_text_pieces.proofs.leaf.put_boolean_text.Goals as goal
 
 pub read_boolean-requires : goal.read_boolean-requires
-read_boolean-requires c = search writing
+read_boolean-requires g c = search writing
 
 pub put_boolean-requires : goal.put_boolean-requires
-put_boolean-requires c = search writing
+put_boolean-requires g c = search writing
 
 pub returns-in-Some : goal.returns-in-Some
-returns-in-Some c = search (put_truth, writing)
+returns-in-Some g c = search (put_truth, writing)
 
 pub returns-in-None : goal.returns-in-None
-returns-in-None c = search (put_no_truth, writing)
+returns-in-None g c = search (put_no_truth, writing)

@@ -7,7 +7,7 @@ use Rattle.write_xml.specs.laws.Written.{document_put}
 use Rattle.write_xml.proofs.document.put_document.Goals as goal
 
 pub put_components-b-requires : goal.put_components-b-requires
-put_components-b-requires c = (search (ready_start, rules), omega arith)
+put_components-b-requires g c = (search (ready_start, rules), omega arith)
 
 pub returns : goal.returns
-returns c = search (document_put, writing)
+returns g c = let cut = g.met.E.Cuttable.cut in search (document_put, writing)

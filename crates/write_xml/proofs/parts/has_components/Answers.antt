@@ -4,10 +4,10 @@ use Rattle.octets.specs.laws.Pick.{branching}
 use Rattle.write_xml.proofs.parts.has_components.Goals as goal
 
 pub returns-then-calendar : goal.returns-then-calendar
-returns-then-calendar c = search branching
+returns-then-calendar g c = search branching
 
 pub returns-then-bare : goal.returns-then-bare
-returns-then-bare c = search branching
+returns-then-bare g c = search branching
 
 pub returns : goal.returns
-returns c = search branching
+returns g c = search branching

@@ -6,16 +6,16 @@ use Rattle.write_xml.specs.laws.Places.{ahead_ready}
 use Rattle.write_xml.proofs.parts.put_head.Goals as goal
 
 pub slice_bounds-component_number-end : goal.slice_bounds-component_number-end
-slice_bounds-component_number-end c = search (length-take-le, rules)
+slice_bounds-component_number-end g c = search (length-take-le, rules)
 
 pub slice_bounds-put_small_start-end : goal.slice_bounds-put_small_start-end
-slice_bounds-put_small_start-end c = search (length-take-le, rules)
+slice_bounds-put_small_start-end g c = search (length-take-le, rules)
 
 pub cut_at_level-b-requires : goal.cut_at_level-b-requires
-cut_at_level-b-requires c = search (ahead_ready, rules)
+cut_at_level-b-requires g c = search (ahead_ready, rules)
 
 pub slice_bounds-has_components-end : goal.slice_bounds-has_components-end
-slice_bounds-has_components-end c = search (length-take-le, rules)
+slice_bounds-has_components-end g c = search (length-take-le, rules)
 
 pub returns : goal.returns
-returns c = head_put _ _ _ _ c.component_number-k.ensures c.put_small_start-a.ensures c.put_properties_element-all.ensures (c.cut_at_level-b.ensures _ c.put_properties_element-all.ensures.ahead) c.has_components-there.ensures c.put_components_start-c.ensures
+returns g c = head_put _ _ _ _ c.component_number-k.ensures c.put_small_start-a.ensures c.put_properties_element-all.ensures (c.cut_at_level-b.ensures _ c.put_properties_element-all.ensures.ahead) c.has_components-there.ensures c.put_components_start-c.ensures

@@ -4,4 +4,4 @@ use Rattle.write_xml.specs.laws.Parts.{tail_put}
 use Rattle.write_xml.proofs.parts.put_tail.Goals as goal
 
 pub returns : goal.returns
-returns c = search (tail_put, rules)
+returns g c = search (tail_put, rules)

@@ -5,16 +5,16 @@ use Rattle.write_xml.specs.laws.Places.{element_put}
 use Rattle.write_xml.proofs.properties.put_properties_element.Goals as goal
 
 pub put_start_tag-a-requires : goal.put_start_tag-a-requires
-put_start_tag-a-requires c = search writing
+put_start_tag-a-requires g c = search writing
 
 pub put_properties-b-requires : goal.put_properties-b-requires
-put_properties-b-requires c = search writing
+put_properties-b-requires g c = search writing
 
 pub put_end_tag-c-requires : goal.put_end_tag-c-requires
-put_end_tag-c-requires c = search writing
+put_end_tag-c-requires g c = search writing
 
 pub shape_of-out : goal.shape_of-out
-shape_of-out c = search writing
+shape_of-out g c = search writing
 
 pub returns : goal.returns
-returns c = search (element_put, rules)
+returns g c = search (element_put, rules)

@@ -11,7 +11,7 @@ use Rattle.sink.specs.laws.Sink.{writing}
 use Rattle.write_xml_parameters.proofs.line.is_bare.Given as goal
 
 abbrev pub invariant-loop-p : goal.invariant-loop-p
-invariant-loop-p l = is_empty (own_parameters (params_at l.mode l.s l.at)) ≡ is_empty (own_parameters (params_at l.mode l.s l.c))
+invariant-loop-p g l = is_empty (own_parameters (params_at g.E.Encoding.encoding l.s l.at)) ≡ is_empty (own_parameters (params_at g.E.Encoding.encoding l.s l.c))
 
 abbrev pub decreases-loop-p : goal.decreases-loop-p
-decreases-loop-p l = 4 * length l.s - l.c
+decreases-loop-p g l = 4 * length l.s - l.c

@@ -11,7 +11,7 @@ use Rattle.write_xml_parameters.specs.laws.Walk.{Writing}
 use Rattle.write_xml_parameters.proofs.value.put_next_values.Given as goal
 
 abbrev pub invariant-loop-v : goal.invariant-loop-v
-invariant-loop-v l = Writing (chars_in l.edition (row_at l.q)) l.initial.out l.o (items next_value (rest l.mode l.s l.at)) l.out l.p (items next_value (rest l.mode l.s l.c))
+invariant-loop-v g l = Writing (chars_in l.edition (row_at l.q)) l.initial.out l.o (items next_value (rest g.E.Encoding.encoding l.s l.at)) l.out l.p (items next_value (rest g.E.Encoding.encoding l.s l.c))
 
 abbrev pub decreases-loop-v : goal.decreases-loop-v
-decreases-loop-v l = 4 * length l.s - l.c
+decreases-loop-v g l = 4 * length l.s - l.c

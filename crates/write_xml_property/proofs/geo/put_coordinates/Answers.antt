@@ -3,13 +3,13 @@ use Rattle.sink.specs.laws.Sink.{writing}
 use Rattle.write_xml_property.proofs.geo.put_coordinates.Goals as goal
 
 pub put_latitude-a-requires : goal.put_latitude-a-requires
-put_latitude-a-requires c = search writing
+put_latitude-a-requires g c = search writing
 
 pub put_longitude-requires : goal.put_longitude-requires
-put_longitude-requires c = search writing
+put_longitude-requires g c = search writing
 
 pub shape_of-out : goal.shape_of-out
-shape_of-out c = search writing
+shape_of-out g c = search writing
 
 pub returns : goal.returns
-returns c = search writing
+returns g c = search writing

@@ -4,13 +4,13 @@ use Rattle.sink.specs.laws.Sink.{writing}
 use Rattle.write_xml_property.proofs.geo.put_geo.Goals as goal
 
 pub read_geo-requires : goal.read_geo-requires
-read_geo-requires c = search writing
+read_geo-requires g c = search writing
 
 pub returns-in_default : goal.returns-in_default
-returns-in_default c = search (put_no_geo, writing)
+returns-in_default g c = search (put_no_geo, writing)
 
 pub put_coordinates-requires : goal.put_coordinates-requires
-put_coordinates-requires c = search writing
+put_coordinates-requires g c = search writing
 
 pub returns : goal.returns
-returns c = search (put_geo, writing)
+returns g c = search (put_geo, writing)

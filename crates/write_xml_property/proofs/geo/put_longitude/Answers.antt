@@ -3,16 +3,16 @@ use Rattle.sink.specs.laws.Sink.{writing}
 use Rattle.write_xml_property.proofs.geo.put_longitude.Goals as goal
 
 pub put_start_tag-a-requires : goal.put_start_tag-a-requires
-put_start_tag-a-requires c = search writing
+put_start_tag-a-requires g c = search writing
 
 pub put_float-b-requires : goal.put_float-b-requires
-put_float-b-requires c = search writing
+put_float-b-requires g c = search writing
 
 pub put_end_tag-requires : goal.put_end_tag-requires
-put_end_tag-requires c = search writing
+put_end_tag-requires g c = search writing
 
 pub shape_of-out : goal.shape_of-out
-shape_of-out c = search writing
+shape_of-out g c = search writing
 
 pub returns : goal.returns
-returns c = search writing
+returns g c = search writing

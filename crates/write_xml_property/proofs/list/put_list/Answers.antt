@@ -4,28 +4,28 @@ use Rattle.sink.specs.laws.Sink.{writing}
 use Rattle.write_xml_property.proofs.list.put_list.Goals as goal
 
 pub put_texts_xml-requires : goal.put_texts_xml-requires
-put_texts_xml-requires c = search writing
+put_texts_xml-requires g c = let cut = g.met.E.Cuttable.cut in search writing
 
 pub shape_of-out-then-t-eq-TEXT : goal.shape_of-out-then-t-eq-TEXT
-shape_of-out-then-t-eq-TEXT c = search writing
+shape_of-out-then-t-eq-TEXT g c = let cut = g.met.E.Cuttable.cut in search writing
 
 pub returns-then-t-eq-TEXT : goal.returns-then-t-eq-TEXT
-returns-then-t-eq-TEXT c = search (put_list_texts, writing)
+returns-then-t-eq-TEXT g c = let cut = g.met.E.Cuttable.cut in search (put_list_texts, writing)
 
 pub put_pieces-requires : goal.put_pieces-requires
-put_pieces-requires c = search (end_within, writing)
+put_pieces-requires g c = let cut = g.met.E.Cuttable.cut in search (end_within, writing)
 
 pub shape_of-out-then-s-at : goal.shape_of-out-then-s-at
-shape_of-out-then-s-at c = search writing
+shape_of-out-then-s-at g c = let cut = g.met.E.Cuttable.cut in search writing
 
 pub returns-then-s-at : goal.returns-then-s-at
-returns-then-s-at c = search (put_list_past, writing)
+returns-then-s-at g c = let cut = g.met.E.Cuttable.cut in search (put_list_past, writing)
 
 pub put_pieces-requires-2 : goal.put_pieces-requires-2
-put_pieces-requires-2 c = search (index_within, writing)
+put_pieces-requires-2 g c = let cut = g.met.E.Cuttable.cut in search (index_within, writing)
 
 pub shape_of-out : goal.shape_of-out
-shape_of-out c = search writing
+shape_of-out g c = let cut = g.met.E.Cuttable.cut in search writing
 
 pub returns : goal.returns
-returns c = search (put_list_pieces, writing)
+returns g c = let cut = g.met.E.Cuttable.cut in search (put_list_pieces, writing)

@@ -5,13 +5,13 @@ use Rattle.sink.specs.laws.Sink.{writing}
 use Rattle.write_xml_property.proofs.list.put_piece.Goals as goal
 
 pub slice_bounds-put_value_element-end : goal.slice_bounds-put_value_element-end
-slice_bounds-put_value_element-end c = search (length-take-le, rules)
+slice_bounds-put_value_element-end g c = let cut = g.met.E.Cuttable.cut in search (length-take-le, rules)
 
 pub put_value_element-requires : goal.put_value_element-requires
-put_value_element-requires c = search writing
+put_value_element-requires g c = let cut = g.met.E.Cuttable.cut in search writing
 
 pub shape_of-out : goal.shape_of-out
-shape_of-out c = search writing
+shape_of-out g c = let cut = g.met.E.Cuttable.cut in search writing
 
 pub returns : goal.returns
-returns c = search writing
+returns g c = let cut = g.met.E.Cuttable.cut in search writing

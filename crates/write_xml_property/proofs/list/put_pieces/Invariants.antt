@@ -5,7 +5,7 @@ use Rattle.write_xml_property.specs.laws.Pieces.{Piecing, piecing}
 use Rattle.write_xml_property.proofs.list.put_pieces.Given as goal
 
 abbrev pub invariant-loop-n : goal.invariant-loop-n
-invariant-loop-n l = Piecing l.t l.initial.out l.at l.mode l.s l.from l.out l.o l.c
+invariant-loop-n g l = Piecing l.t l.initial.out l.at g.E.Encoding.encoding l.s l.from l.out l.o l.c
 
 abbrev pub decreases-loop-n : goal.decreases-loop-n
-decreases-loop-n l = length l.s - l.c
+decreases-loop-n g l = length l.s - l.c

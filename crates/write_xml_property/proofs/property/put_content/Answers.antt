@@ -3,13 +3,13 @@ use Rattle.sink.specs.laws.Sink.{writing}
 use Rattle.write_xml_property.proofs.property.put_content.Goals as goal
 
 pub put_parameters-a-requires : goal.put_parameters-a-requires
-put_parameters-a-requires c = search writing
+put_parameters-a-requires g c = let cut = g.met.E.Cuttable.cut in search writing
 
 pub put_stated-requires : goal.put_stated-requires
-put_stated-requires c = search writing
+put_stated-requires g c = let cut = g.met.E.Cuttable.cut in search writing
 
 pub shape_of-out : goal.shape_of-out
-shape_of-out c = search writing
+shape_of-out g c = let cut = g.met.E.Cuttable.cut in search writing
 
 pub returns : goal.returns
-returns c = search writing
+returns g c = let cut = g.met.E.Cuttable.cut in search writing

@@ -3,37 +3,37 @@ use Rattle.sink.specs.laws.Sink.{writing}
 use Rattle.write_xml_property.proofs.shown.put_shown.Goals as goal
 
 pub put_geo-requires : goal.put_geo-requires
-put_geo-requires c = search writing
+put_geo-requires g c = let cut = g.met.E.Cuttable.cut in search writing
 
 pub shape_of-out-then-p-eq-GEO : goal.shape_of-out-then-p-eq-GEO
-shape_of-out-then-p-eq-GEO c = search writing
+shape_of-out-then-p-eq-GEO g c = let cut = g.met.E.Cuttable.cut in search writing
 
 pub returns-then-p-eq-GEO : goal.returns-then-p-eq-GEO
-returns-then-p-eq-GEO c = search writing
+returns-then-p-eq-GEO g c = let cut = g.met.E.Cuttable.cut in search writing
 
 pub put_request_status_xml-requires : goal.put_request_status_xml-requires
-put_request_status_xml-requires c = search writing
+put_request_status_xml-requires g c = let cut = g.met.E.Cuttable.cut in search writing
 
 pub shape_of-out-then-p-eq-REQUEST_STATUS : goal.shape_of-out-then-p-eq-REQUEST_STATUS
-shape_of-out-then-p-eq-REQUEST_STATUS c = search writing
+shape_of-out-then-p-eq-REQUEST_STATUS g c = let cut = g.met.E.Cuttable.cut in search writing
 
 pub returns-then-p-eq-REQUEST_STATUS : goal.returns-then-p-eq-REQUEST_STATUS
-returns-then-p-eq-REQUEST_STATUS c = search writing
+returns-then-p-eq-REQUEST_STATUS g c = let cut = g.met.E.Cuttable.cut in search writing
 
 pub put_list-requires : goal.put_list-requires
-put_list-requires c = search writing
+put_list-requires g c = let cut = g.met.E.Cuttable.cut in search writing
 
 pub shape_of-out-then-c : goal.shape_of-out-then-c
-shape_of-out-then-c c = search writing
+shape_of-out-then-c g c = let cut = g.met.E.Cuttable.cut in search writing
 
 pub returns-then-c : goal.returns-then-c
-returns-then-c c = search writing
+returns-then-c g c = let cut = g.met.E.Cuttable.cut in search writing
 
 pub put_single-requires : goal.put_single-requires
-put_single-requires c = search writing
+put_single-requires g c = let cut = g.met.E.Cuttable.cut in search writing
 
 pub shape_of-out : goal.shape_of-out
-shape_of-out c = search writing
+shape_of-out g c = let cut = g.met.E.Cuttable.cut in search writing
 
 pub returns : goal.returns
-returns c = search writing
+returns g c = let cut = g.met.E.Cuttable.cut in search writing

@@ -4,22 +4,22 @@ use Rattle.sink.specs.laws.Sink.{writing}
 use Rattle.write_xml_property.proofs.shown.put_single.Goals as goal
 
 pub has_words-chosen-requires : goal.has_words-chosen-requires
-has_words-chosen-requires c = search writing
+has_words-chosen-requires g c = let cut = g.met.E.Cuttable.cut in search writing
 
 pub put_word_element-requires : goal.put_word_element-requires
-put_word_element-requires c = search writing
+put_word_element-requires g c = let cut = g.met.E.Cuttable.cut in search writing
 
 pub shape_of-out-then-chosen : goal.shape_of-out-then-chosen
-shape_of-out-then-chosen c = search writing
+shape_of-out-then-chosen g c = let cut = g.met.E.Cuttable.cut in search writing
 
 pub returns-then-chosen : goal.returns-then-chosen
-returns-then-chosen c = search (flag_yes, writing)
+returns-then-chosen g c = let cut = g.met.E.Cuttable.cut in search (flag_yes, writing)
 
 pub put_value_element-requires : goal.put_value_element-requires
-put_value_element-requires c = search writing
+put_value_element-requires g c = let cut = g.met.E.Cuttable.cut in search writing
 
 pub shape_of-out : goal.shape_of-out
-shape_of-out c = search writing
+shape_of-out g c = let cut = g.met.E.Cuttable.cut in search writing
 
 pub returns : goal.returns
-returns c = search (flag_no, writing)
+returns g c = let cut = g.met.E.Cuttable.cut in search (flag_no, writing)

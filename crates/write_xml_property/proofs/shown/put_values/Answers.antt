@@ -5,19 +5,19 @@ use Rattle.write_xml_property.specs.laws.Shown.{put_shown, put_no_values}
 use Rattle.write_xml_property.proofs.shown.put_values.Goals as goal
 
 pub component_place-requires : goal.component_place-requires
-component_place-requires c = search writing
+component_place-requires g c = let cut = g.met.E.Cuttable.cut in search writing
 
 pub type_place-requires : goal.type_place-requires
-type_place-requires c = search writing
+type_place-requires g c = let cut = g.met.E.Cuttable.cut in search writing
 
 pub read_values-requires : goal.read_values-requires
-read_values-requires c = search writing
+read_values-requires g c = let cut = g.met.E.Cuttable.cut in search writing
 
 pub returns-in-None : goal.returns-in-None
-returns-in-None c = let a = c.args in λ w e. put_no_values a.c.component a.c.row a.c.value_type _ _ _ c.component_place.ensures c.type_place.ensures c.read_values.ensures w e c.in-None.is (search rules)
+returns-in-None g c = let a = c.args in λ w e. put_no_values a.c.component a.c.row a.c.value_type _ _ _ c.component_place.ensures c.type_place.ensures c.read_values.ensures w e c.in-None.is (search rules)
 
 pub put_shown-requires : goal.put_shown-requires
-put_shown-requires c = search writing
+put_shown-requires g c = let cut = g.met.E.Cuttable.cut in search writing
 
 pub returns-in-Some : goal.returns-in-Some
-returns-in-Some c = let a = c.args in λ w e. put_shown a.c.component a.c.row a.c.value_type _ _ _ c.component_place.ensures c.type_place.ensures c.read_values.ensures w e _ c.in-Some.is c.put_shown.ensures
+returns-in-Some g c = let a = c.args in λ w e. put_shown a.c.component a.c.row a.c.value_type _ _ _ c.component_place.ensures c.type_place.ensures c.read_values.ensures w e _ c.in-Some.is c.put_shown.ensures

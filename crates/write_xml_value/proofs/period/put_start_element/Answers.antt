@@ -3,16 +3,16 @@ use Rattle.sink.specs.laws.Sink.{writing}
 use Rattle.write_xml_value.proofs.period.put_start_element.Goals as goal
 
 pub put_start_tag-p-requires : goal.put_start_tag-p-requires
-put_start_tag-p-requires c = search writing
+put_start_tag-p-requires g c = search writing
 
 pub put_period_start-q-requires : goal.put_period_start-q-requires
-put_period_start-q-requires c = search writing
+put_period_start-q-requires g c = search writing
 
 pub put_end_tag-requires : goal.put_end_tag-requires
-put_end_tag-requires c = search writing
+put_end_tag-requires g c = search writing
 
 pub shape_of-out : goal.shape_of-out
-shape_of-out c = search writing
+shape_of-out g c = search writing
 
 pub returns : goal.returns
-returns c = search writing
+returns g c = search writing

@@ -3,16 +3,16 @@ use Rattle.sink.specs.laws.Sink.{writing}
 use Rattle.write_xml_value.proofs.rule.put_item_xml.Goals as goal
 
 pub put_part_start-a-requires : goal.put_part_start-a-requires
-put_part_start-a-requires c = search writing
+put_part_start-a-requires g c = search writing
 
 pub put_shown-b-requires : goal.put_shown-b-requires
-put_shown-b-requires c = search writing
+put_shown-b-requires g c = search writing
 
 pub put_part_end-requires : goal.put_part_end-requires
-put_part_end-requires c = search writing
+put_part_end-requires g c = search writing
 
 pub shape_of-out : goal.shape_of-out
-shape_of-out c = search writing
+shape_of-out g c = search writing
 
 pub returns : goal.returns
-returns c = search writing
+returns g c = search writing

@@ -9,28 +9,28 @@ use Rattle.write_xml_value.specs.laws.PutRule.{Itemizing, items_start, items_mor
 use Rattle.write_xml_value.proofs.rule.put_items_xml.Goals as goal
 
 pub loop-n-init : goal.loop-n-init
-loop-n-init c = search (items_start, writing)
+loop-n-init g c = search (items_start, writing)
 
 pub byte_end-e-requires : goal.byte_end-e-requires
-byte_end-e-requires c = c.loop-n.invariant.inside
+byte_end-e-requires g c = c.loop-n.invariant.inside
 
 pub slice_bounds-put_item_xml-end : goal.slice_bounds-put_item_xml-end
-slice_bounds-put_item_xml-end c = cut_count c.byte_end-e.ensures
+slice_bounds-put_item_xml-end g c = cut_count c.byte_end-e.ensures
 
 pub put_item_xml-q-requires : goal.put_item_xml-q-requires
-put_item_xml-q-requires c = search writing
+put_item_xml-q-requires g c = search writing
 
 pub unit-n-requires : goal.unit-n-requires
-unit-n-requires c = search writing
+unit-n-requires g c = search writing
 
 pub shape_of-out-then-u-eq-END : goal.shape_of-out-then-u-eq-END
-shape_of-out-then-u-eq-END c = search writing
+shape_of-out-then-u-eq-END g c = search writing
 
 pub returns-then-u-eq-END : goal.returns-then-u-eq-END
-returns-then-u-eq-END c = items_end c.loop-n.invariant c.byte_end-e.ensures c.put_item_xml-q.ensures c.unit-n.ensures c.if-u-eq-END.true
+returns-then-u-eq-END g c = items_end c.loop-n.invariant c.byte_end-e.ensures c.put_item_xml-q.ensures c.unit-n.ensures c.if-u-eq-END.true
 
 pub loop-n-smaller : goal.loop-n-smaller
-loop-n-smaller c = pieces_less c.byte_end-e.ensures c.unit-n.ensures c.if-u-eq-END.false
+loop-n-smaller g c = pieces_less c.byte_end-e.ensures c.unit-n.ensures c.if-u-eq-END.false
 
 pub loop-n-preserved : goal.loop-n-preserved
-loop-n-preserved c = items_more c.loop-n.invariant c.byte_end-e.ensures c.put_item_xml-q.ensures c.unit-n.ensures c.if-u-eq-END.false
+loop-n-preserved g c = items_more c.loop-n.invariant c.byte_end-e.ensures c.put_item_xml-q.ensures c.unit-n.ensures c.if-u-eq-END.false

@@ -9,7 +9,7 @@ use Rattle.write_xml_value.specs.laws.PutRule.{Itemizing, items_start, items_mor
 use Rattle.write_xml_value.proofs.rule.put_items_xml.Given as goal
 
 abbrev pub invariant-loop-n : goal.invariant-loop-n
-invariant-loop-n l = Itemizing (get_or part_names l.p []) l.initial.out l.o l.mode l.s l.at l.out l.q l.c
+invariant-loop-n g l = Itemizing (get_or part_names l.p []) l.initial.out l.o g.E.Encoding.encoding l.s l.at l.out l.q l.c
 
 abbrev pub decreases-loop-n : goal.decreases-loop-n
-decreases-loop-n l = length l.s - l.c
+decreases-loop-n g l = length l.s - l.c

@@ -7,28 +7,28 @@ use Rattle.sink.specs.laws.Sink.{writing}
 use Rattle.write_xml_value.proofs.rule.put_parts_xml.Goals as goal
 
 pub loop-p-init : goal.loop-p-init
-loop-p-init c = search (naming_start, writing)
+loop-p-init g c = let cut = g.met.E.Cuttable.cut in search (naming_start, writing)
 
 pub offset_bounds-begins-p : goal.offset_bounds-begins-p
-offset_bounds-begins-p c = search writing
+offset_bounds-begins-p g c = let cut = g.met.E.Cuttable.cut in search writing
 
 pub bounds-begins-p : goal.bounds-begins-p
-bounds-begins-p c = search writing
+bounds-begins-p g c = let cut = g.met.E.Cuttable.cut in search writing
 
 pub put_part_xml-q-requires : goal.put_part_xml-q-requires
-put_part_xml-q-requires c = (c.requires.0, begins_inside c.requires.1 _)
+put_part_xml-q-requires g c = begins_inside c.requires _
 
 pub overflow_add-p : goal.overflow_add-p
-overflow_add-p c = search writing
+overflow_add-p g c = let cut = g.met.E.Cuttable.cut in search writing
 
 pub loop-p-smaller : goal.loop-p-smaller
-loop-p-smaller c = search writing
+loop-p-smaller g c = let cut = g.met.E.Cuttable.cut in search writing
 
 pub loop-p-preserved : goal.loop-p-preserved
-loop-p-preserved c = naming_more c.loop-p.invariant c.loop-p-test.true (put_standing _ c.requires.1 c.loop-p-test.true c.put_part_xml-q.ensures)
+loop-p-preserved g c = naming_more c.loop-p.invariant c.loop-p-test.true (put_standing _ c.requires c.loop-p-test.true c.put_part_xml-q.ensures)
 
 pub shape_of-out : goal.shape_of-out
-shape_of-out c = search writing
+shape_of-out g c = let cut = g.met.E.Cuttable.cut in search writing
 
 pub returns : goal.returns
-returns c = naming_end c.loop-p.invariant c.loop-p-test.false
+returns g c = naming_end c.loop-p.invariant c.loop-p-test.false

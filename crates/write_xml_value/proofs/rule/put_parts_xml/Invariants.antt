@@ -7,7 +7,7 @@ use Rattle.sink.specs.laws.Sink.{writing}
 use Rattle.write_xml_value.proofs.rule.put_parts_xml.Given as goal
 
 abbrev pub invariant-loop-p : goal.invariant-loop-p
-invariant-loop-p l = Naming (cut_at 59 (rest l.mode l.s l.at)) l.initial.out l.o l.out l.q l.p
+invariant-loop-p g l = Naming (cut_at 59 (rest g.E.Encoding.encoding l.s l.at)) l.initial.out l.o l.out l.q l.p
 
 abbrev pub decreases-loop-p : goal.decreases-loop-p
-decreases-loop-p l = 14 - l.p
+decreases-loop-p g l = 14 - l.p

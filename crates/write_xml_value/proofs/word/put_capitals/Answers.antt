@@ -11,28 +11,28 @@ use Rattle.write_xml_value.specs.laws.Words.{capital_byte, capitals_each, capita
 use Rattle.write_xml_value.proofs.word.put_capitals.Goals as goal
 
 pub loop-t-init : goal.loop-t-init
-loop-t-init c = search capitals
+loop-t-init g c = search capitals
 
 pub unit-t-requires : goal.unit-t-requires
-unit-t-requires c = search capitals
+unit-t-requires g c = search capitals
 
 pub shape_of-out-then-u-eq-END : goal.shape_of-out-then-u-eq-END
-shape_of-out-then-u-eq-END c = search capitals
+shape_of-out-then-u-eq-END g c = search capitals
 
 pub returns-then-u-eq-END : goal.returns-then-u-eq-END
-returns-then-u-eq-END c = rw capitals_each (search capitals)
+returns-then-u-eq-END g c = rw capitals_each (search capitals)
 
 pub upper_unit-v-requires : goal.upper_unit-v-requires
-upper_unit-v-requires c = search capitals
+upper_unit-v-requires g c = search capitals
 
 pub overflow_cast-v : goal.overflow_cast-v
-overflow_cast-v c = omega (arith, c.upper_unit-v.ensures, capital_small c.unit-t.result.u (byte_small c.unit-t.ensures c.if-u-eq-END.false))
+overflow_cast-v g c = omega (arith, c.upper_unit-v.ensures, capital_small c.unit-t.result.u (byte_small c.unit-t.ensures c.if-u-eq-END.false))
 
 pub put_escaped_byte-p-requires : goal.put_escaped_byte-p-requires
-put_escaped_byte-p-requires c = search capitals
+put_escaped_byte-p-requires g c = search capitals
 
 pub loop-t-smaller : goal.loop-t-smaller
-loop-t-smaller c = search capitals
+loop-t-smaller g c = search capitals
 
 pub loop-t-preserved : goal.loop-t-preserved
-loop-t-preserved c = search capitals
+loop-t-preserved g c = search capitals

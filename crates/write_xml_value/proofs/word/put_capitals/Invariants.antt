@@ -11,7 +11,7 @@ use Rattle.write_xml_value.specs.laws.Words.{capital_byte, capitals_each, capita
 use Rattle.write_xml_value.proofs.word.put_capitals.Given as goal
 
 abbrev pub invariant-loop-t : goal.invariant-loop-t
-invariant-loop-t l = Todo l.initial.out l.o (each capital_byte (rest l.mode l.s l.at)) l.out l.p (each capital_byte (rest l.mode l.s l.c)) × (length l.out ≡ length l.initial.out)
+invariant-loop-t g l = Todo l.initial.out l.o (each capital_byte (rest g.E.Encoding.encoding l.s l.at)) l.out l.p (each capital_byte (rest g.E.Encoding.encoding l.s l.c)) × (length l.out ≡ length l.initial.out)
 
 abbrev pub decreases-loop-t : goal.decreases-loop-t
-decreases-loop-t l = 4 * length l.s - l.c
+decreases-loop-t g l = 4 * length l.s - l.c
