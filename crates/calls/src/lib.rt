@@ -5,6 +5,8 @@ mod refusing;
 mod told;
 
 ghost use Rattle.std.specs.Prelude.{◌≡◌};
+ghost use Rattle.calendar.specs.Refusal.{number_of};
+ghost use Rattle.refusals.specs.Fault.{refusal_of};
 ghost use Rattle.calls.specs.Answered.{answer_of};
 
 use refusals::{Fault, Refusal};
@@ -20,10 +22,18 @@ pub enum Answer {
     Refused(Refusal, usize),
 }
 
+// The number of a refusal.
+fn number(refusal: Refusal) -> u8
+    ensures { result ≡ number_of (refusal_of refusal) }
+{
+    refusal as u8
+}
+
 impl From<Fault> for Answer {
     ghost from_gives = { λ fault answer. answer ≡ answer_of fault };
 
+    // By its number, so that the answer of a fault is that of its number.
     fn from(fault: Fault) -> Answer {
-        Answer::Refused(fault.refusal, fault.place)
+        refused(number(fault.refusal), fault.place)
     }
 }

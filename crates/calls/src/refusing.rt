@@ -1,4 +1,4 @@
-// The answer that refuses, by its number, for callers that have a refusal as a number. See specs/Answered.antt.
+// The answer that refuses, by its number. See specs/Answered.antt.
 ghost use Rattle.std.specs.Prelude.{◌≡◌};
 ghost use Rattle.calls.specs.Answered.{named, named_else, answer_at};
 

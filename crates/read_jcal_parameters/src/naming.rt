@@ -14,7 +14,7 @@ use octets::unit::END;
 use octets::{is_capital, is_name_char};
 use read_json::member_at;
 use read_text_line::is_carried_name;
-use source::{JsonCharacters, unit};
+use source::{JsonCharacters, quoted_unit};
 
 // Each character from the cursor on is one of a name, and no capital.
 fn is_small_name(s: &[u8], at: usize) -> bool
@@ -22,7 +22,7 @@ fn is_small_name(s: &[u8], at: usize) -> bool
 {
     let mut c = at;
     loop {
-        let n = unit::<JsonCharacters>(s, c);
+        let n = quoted_unit(s, c);
         if n.u == END {
             return true;
         }
@@ -40,7 +40,7 @@ fn is_small_name(s: &[u8], at: usize) -> bool
 fn is_bad_from(s: &[u8], at: usize) -> bool
     ensures { result ≡ is_bad_name (rest 3 s.now at) }
 {
-    let n = unit::<JsonCharacters>(s, at);
+    let n = quoted_unit(s, at);
     n.u == END || !is_small_name(s, at) || !is_carried_name::<JsonCharacters>(s, at)
 }
 

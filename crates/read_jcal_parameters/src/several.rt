@@ -18,7 +18,7 @@ use read_json::{element_at, element_next};
 use schema::{
     is_listed_parameter, parameter_has_words, parameter_type, read_word_of_parameter, value_type,
 };
-use source::{JsonCharacters, unit};
+use source::{JsonCharacters, quoted_unit};
 use values::read_value;
 
 // TRUE or FALSE.
@@ -63,7 +63,7 @@ pub fn has_byte(b: usize, s: &[u8], at: usize) -> bool
 {
     let mut c = at;
     loop {
-        let n = unit::<JsonCharacters>(s, c);
+        let n = quoted_unit(s, c);
         let u = n.u;
         if u == END {
             return false;

@@ -1,7 +1,8 @@
 -- Parts of a content line read through a cursor: what the readers answer, as contracts. `rest m s c` is what stands from the cursor c on.
 --     Onward m s c r        the cursor r is at or behind c, within bounds, and reached from c by whole steps
 --     RunEnds p m s c r     the run of characters that pass p, from c on, ends at r;   in_line, char_of: its tests, `passing` its rules
---     ItemAt p m s c ..     what p reads from c on: no item, an item and the cursor behind it, or a fault;   OnItem: of an item that is there
+--     ItemAt p m s c ..     what p reads from c on: no item, an item and the cursor behind it, or a fault
+--     OnItem r P            P of the cursors of an item that is there;   OnRead r P: of what was read of a faulty one too
 --     there r               an item that has to be there
 --     values_at, params_at  the values of a parameter from its first on, the parameters of a line, up to the first that is none
 use Rattle.std.specs.Prelude.{◌≡◌, Bool, true, false, List, [], ◌∷◌, ℕ, ◌*◌, max, ◌≤◌, eqb, length, Option, None, Some, Result, Ok, Err}
@@ -38,35 +39,40 @@ pub record RunEnds (p : ℕ → Bool) (m : ℕ) (s : List ℕ) (c r : ℕ) : Typ
   pub left : rest m s r ≡ after_run p (rest m s c)
   pub to : Onward m s c r
 
--- up to the cursor behind what is there
-abbrev pub OnwardTo : ℕ → List ℕ → ℕ → Result ℕ Malformed → Type 0
+-- up to the cursor behind what is there, or behind what was read of it
+abbrev pub OnwardTo : ℕ → List ℕ → ℕ → Result ℕ (Malformed ℕ) → Type 0
 OnwardTo m s c (Ok next) = Onward m s c next
-OnwardTo m s c (Err e) = Unit {0}
+OnwardTo m s c (Err e) = Onward m s c e.read
 
 -- ---- an item at a cursor
 
 -- by the cursors v of its parts: the item that stands there, and what is left behind it
-abbrev pub one_at : {C A : Type 0} → (C → A) → (C → List ℕ) → Result (Option C) Malformed → List ℕ → One A
+abbrev pub one_at : {C A : Type 0} → (C → A) → (C → List ℕ) → Result (Option C) (Malformed C) → List ℕ → One A
 one_at item left (Ok (Some v)) f = got (item v) (left v)
 one_at item left (Ok None) f = One.none
 one_at item left (Err e) f = bad f
 
-abbrev pub OnItem : {C : Type 0} → Result (Option C) Malformed → (C → Type 0) → Type 0
+abbrev pub OnItem : {C : Type 0} → Result (Option C) (Malformed C) → (C → Type 0) → Type 0
 OnItem (Ok (Some v)) P = P v
 OnItem (Ok None) P = Unit {0}
 OnItem (Err e) P = Unit {0}
 
-pub record ItemAt {C A : Type 0} (p : List ℕ → One A) (m : ℕ) (s : List ℕ) (c : ℕ) (item : C → A) (behind : C → ℕ) (r : Result (Option C) Malformed) : Type 0 where
+abbrev pub OnRead : {C : Type 0} → Result (Option C) (Malformed C) → (C → Type 0) → Type 0
+OnRead (Ok (Some v)) P = P v
+OnRead (Ok None) P = Unit {0}
+OnRead (Err e) P = P e.read
+
+pub record ItemAt {C A : Type 0} (p : List ℕ → One A) (m : ℕ) (s : List ℕ) (c : ℕ) (item : C → A) (behind : C → ℕ) (r : Result (Option C) (Malformed C)) : Type 0 where
   pub fault : List ℕ
   pub is : p (rest m s c) ≡ one_at item (λ (v : C). rest m s (behind v)) r fault
-  pub to : OnItem r (λ (v : C). Onward m s c (behind v))
+  pub to : OnRead r (λ (v : C). Onward m s c (behind v))
 
-abbrev pub there : {C : Type 0} → Result C Malformed → Result (Option C) Malformed
+abbrev pub there : {C : Type 0} → Result C (Malformed C) → Result (Option C) (Malformed C)
 there (Ok v) = Ok (Some v)
 there (Err e) = Err e
 
 -- an item that ends at a cursor
-abbrev pub one_to : {A : Type 0} → ℕ → List ℕ → A → Result ℕ Malformed → List ℕ → One A
+abbrev pub one_to : {A : Type 0} → ℕ → List ℕ → A → Result ℕ (Malformed ℕ) → List ℕ → One A
 one_to m s a (Ok next) f = got a (rest m s next)
 one_to m s a (Err e) f = bad f
 

@@ -25,9 +25,11 @@ pub enum Chars {
     Valued,
 }
 
-// What stands there is against the grammar.
+// What stands there is against the grammar: the cursors of what was read of it.
 #[derive(Clone, Copy, Debug, PartialEq, Eq)]
-pub struct Malformed;
+pub struct Malformed<C> {
+    pub read: C,
+}
 
 // A value of a parameter: whether it stands between quotes, the cursors of its characters and of their end, and the cursor behind it.
 #[derive(Clone, Copy, Debug, PartialEq, Eq)]

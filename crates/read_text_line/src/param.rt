@@ -7,7 +7,7 @@ ghost use Rattle.source.specs.Source.{rest};
 ghost use Rattle.read_text_line.specs.ContentLine.{param, next_param};
 ghost use Rattle.read_text_line.specs.Cursor.{there};
 ghost use Rattle.read_text_line.specs.Repeating.{AllAt};
-ghost use Rattle.read_text_line.specs.Params.{named_param, ParamOf};
+ghost use Rattle.read_text_line.specs.Params.{bad_param, named_param, ParamOf};
 
 use crate::value::values;
 use crate::{Malformed, ParameterCursors};
@@ -24,36 +24,68 @@ pub fn no_name<E: Encoding>(s: &[u8], at: usize) -> bool
     !is_name_char(n.u)
 }
 
+// A parameter without a name, or without an equals sign: the cursor where it begins.
+fn bad_param(at: usize) -> Malformed<ParameterCursors>
+    ensures { result.read ≡ bad_param at }
+{
+    Malformed {
+        read: ParameterCursors {
+            name: at,
+            end: at,
+            first: at,
+            next: at,
+        },
+    }
+}
+
 // Behind the semicolon, where a name is there.
-fn named_param<E: Encoding>(s: &[u8], at: usize) -> Result<ParameterCursors, Malformed>
+fn named_param<E: Encoding>(
+    s: &[u8],
+    at: usize,
+) -> Result<ParameterCursors, Malformed<ParameterCursors>>
     ensures { ParamOf named_param E.encoding s.now at (there result) }
 {
     let end = name_end::<E>(s, at);
     let n = unit::<E>(s, end);
     if n.u == EQUALS {
-        let next = values::<E>(s, n.next)?;
-        return Ok(ParameterCursors {
-            name: at,
-            end,
-            first: n.next,
-            next,
-        });
+        return match values::<E>(s, n.next) {
+            Ok(next) => Ok(ParameterCursors {
+                name: at,
+                end,
+                first: n.next,
+                next,
+            }),
+            Err(fault) => Err(Malformed {
+                read: ParameterCursors {
+                    name: at,
+                    end,
+                    first: n.next,
+                    next: fault.read,
+                },
+            }),
+        };
     }
-    Err(Malformed)
+    Err(bad_param(at))
 }
 
 // Behind the semicolon.
-fn param_at<E: Encoding>(s: &[u8], at: usize) -> Result<ParameterCursors, Malformed>
+fn param_at<E: Encoding>(
+    s: &[u8],
+    at: usize,
+) -> Result<ParameterCursors, Malformed<ParameterCursors>>
     ensures { ParamOf param E.encoding s.now at (there result) }
 {
     if no_name::<E>(s, at) {
-        return Err(Malformed);
+        return Err(bad_param(at));
     }
     named_param::<E>(s, at)
 }
 
 // A semicolon and a parameter, if a semicolon is there.
-pub fn next_param<E: Encoding>(s: &[u8], at: usize) -> Result<Option<ParameterCursors>, Malformed>
+pub fn next_param<E: Encoding>(
+    s: &[u8],
+    at: usize,
+) -> Result<Option<ParameterCursors>, Malformed<ParameterCursors>>
     ensures { ParamOf next_param E.encoding s.now at result }
 {
     let n = unit::<E>(s, at);
@@ -64,13 +96,16 @@ pub fn next_param<E: Encoding>(s: &[u8], at: usize) -> Result<Option<ParameterCu
     Ok(None)
 }
 
-// All parameters: the cursor behind them.
-pub fn next_params<E: Encoding>(s: &[u8], at: usize) -> Result<usize, Malformed>
+// All parameters: the cursor behind them, on Err behind those before the wrong one.
+pub fn next_params<E: Encoding>(s: &[u8], at: usize) -> Result<usize, Malformed<usize>>
     ensures { AllAt next_param E.encoding s.now at result }
 {
     let mut c = at;
-    while let Some(p) = next_param::<E>(s, c)? {
-        c = p.next;
+    loop {
+        match next_param::<E>(s, c) {
+            Ok(Some(p)) => c = p.next,
+            Ok(None) => return Ok(c),
+            Err(_) => return Err(Malformed { read: c }),
+        }
     }
-    Ok(c)
 }

@@ -10,7 +10,7 @@ use octets::unit::{COMMA, QUOTE};
 use source::{Encoding, unit};
 
 // Behind the first quote.
-fn quoted_string<E: Encoding>(s: &[u8], at: usize) -> Result<ValueCursors, Malformed>
+fn quoted_string<E: Encoding>(s: &[u8], at: usize) -> Result<ValueCursors, Malformed<ValueCursors>>
     ensures { ValueAt quoted_string E.encoding s.now at (there result) }
 {
     let to = run_end::<E>(Chars::Quoted, s, at);
@@ -23,12 +23,22 @@ fn quoted_string<E: Encoding>(s: &[u8], at: usize) -> Result<ValueCursors, Malfo
             next: n.next,
         })
     } else {
-        Err(Malformed)
+        Err(Malformed {
+            read: ValueCursors {
+                quoted: true,
+                from: at,
+                to,
+                next: to,
+            },
+        })
     }
 }
 
 // A value at the cursor.
-pub fn param_value<E: Encoding>(s: &[u8], at: usize) -> Result<ValueCursors, Malformed>
+pub fn param_value<E: Encoding>(
+    s: &[u8],
+    at: usize,
+) -> Result<ValueCursors, Malformed<ValueCursors>>
     ensures { ValueAt param_value E.encoding s.now at (there result) }
 {
     let n = unit::<E>(s, at);
@@ -45,7 +55,10 @@ pub fn param_value<E: Encoding>(s: &[u8], at: usize) -> Result<ValueCursors, Mal
 }
 
 // A comma and a value, if a comma is there.
-pub fn next_value<E: Encoding>(s: &[u8], at: usize) -> Result<Option<ValueCursors>, Malformed>
+pub fn next_value<E: Encoding>(
+    s: &[u8],
+    at: usize,
+) -> Result<Option<ValueCursors>, Malformed<ValueCursors>>
     ensures { ValueAt next_value E.encoding s.now at result }
 {
     let n = unit::<E>(s, at);
@@ -56,21 +69,26 @@ pub fn next_value<E: Encoding>(s: &[u8], at: usize) -> Result<Option<ValueCursor
     Ok(None)
 }
 
-// All values that follow another: the cursor behind them.
-fn next_values<E: Encoding>(s: &[u8], at: usize) -> Result<usize, Malformed>
+// All values that follow another: the cursor behind them, on Err behind those before the wrong one.
+fn next_values<E: Encoding>(s: &[u8], at: usize) -> Result<usize, Malformed<usize>>
     ensures { AllAt next_value E.encoding s.now at result }
 {
     let mut c = at;
-    while let Some(v) = next_value::<E>(s, c)? {
-        c = v.next;
+    loop {
+        match next_value::<E>(s, c) {
+            Ok(Some(v)) => c = v.next,
+            Ok(None) => return Ok(c),
+            Err(_) => return Err(Malformed { read: c }),
+        }
     }
-    Ok(c)
 }
 
-// All values of a parameter, from its first on: the cursor behind them.
-pub fn values<E: Encoding>(s: &[u8], at: usize) -> Result<usize, Malformed>
+// All values of a parameter, from its first on: the cursor behind them, on Err behind those before the wrong one.
+pub fn values<E: Encoding>(s: &[u8], at: usize) -> Result<usize, Malformed<usize>>
     ensures { ValuesAt E.encoding s.now at result }
 {
-    let v = param_value::<E>(s, at)?;
+    let Ok(v) = param_value::<E>(s, at) else {
+        return Err(Malformed { read: at });
+    };
     next_values::<E>(s, v.next)
 }

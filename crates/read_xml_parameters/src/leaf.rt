@@ -14,7 +14,7 @@ use names::find_word;
 use octets::unit::END;
 use read_xml_nodes::has_element;
 use schema::{parameter_has_words, parameter_type, read_word_of_parameter, value_type};
-use source::{Plain, XmlCharacters, unit};
+use source::{Plain, XmlCharacters, xml_unit};
 use values::read_value;
 
 // The cursor of the characters of the content that begins at `inside`.
@@ -31,7 +31,7 @@ pub fn has_byte(b: usize, s: &[u8], at: usize) -> bool
 {
     let mut c = at;
     loop {
-        let n = unit::<XmlCharacters>(s, c);
+        let n = xml_unit(s, c);
         let u = n.u;
         if u == END {
             return false;

@@ -12,11 +12,11 @@ ghost use Rattle.std.specs.Prelude.{◌≡◌, ℕ, true};
 ghost use Rattle.source.specs.Source.{Reads, Settled, unit_of, cut_of, cuts};
 
 pub use carets::Carets;
-pub use characters::XmlCharacters;
+pub use characters::{XmlCharacters, xml_unit};
 pub use folds::Folded;
 use octets::unit::END;
 pub use points::Unit;
-pub use quoted::JsonCharacters;
+pub use quoted::{JsonCharacters, quoted_unit};
 
 // A byte, and the cursor after it.
 #[derive(Clone, Copy, Debug, PartialEq, Eq)]
@@ -55,7 +55,9 @@ pub trait Cuttable: Encoding {
     ghost cut: { cuts Self.encoding ≡ true };
 }
 
-// The byte at the cursor `at` as a unit: END where nothing is left.
+// The byte at the cursor `at` as a unit: END where nothing is left. It is laid into its callers, as the steps of XML's and JSON's characters are, so that no step is
+// handed on in memory.
+#[inline(always)]
 pub fn unit<E: Encoding>(s: &[u8], at: usize) -> Unit
     ensures { Reads E.encoding s.now at result }
 {

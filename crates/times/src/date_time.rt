@@ -1,6 +1,6 @@
 // DATE-TIME. See specs/DateTime.antt and specs/DateTimeAlong.antt.
 ghost use Rattle.std.specs.Prelude.{◌≡◌};
-ghost use Rattle.octets.specs.Reading.{or_nothing};
+ghost use Rattle.octets.specs.Reading.{and_then, or_nothing};
 ghost use Rattle.calendar.specs.Calendar.{format_of};
 ghost use Rattle.source.specs.Source.{rest};
 ghost use Rattle.sink.specs.Sink.{Put};
@@ -22,9 +22,9 @@ pub struct DateTime {
     pub time: Time,
 }
 
-// The date-time of fourteen digits that are worth `n`, with a zone after them.
-pub fn moment_from(n: usize, zone: Zone) -> Option<DateTime>
-    ensures { moment_by n zone ≡ moment_of result }
+// The date-time of fourteen digits that are worth `n`, with a zone after them; none where what stands there is no zone.
+pub fn moment_from(n: usize, zone: Option<Zone>) -> Option<DateTime>
+    ensures { and_then zone (moment_by n) ≡ moment_of result }
 {
     let date = day_from(n / 1000000)?;
     let time = clock_from(n % 1000000, zone)?;
@@ -45,8 +45,7 @@ pub fn read_date_time<E: Encoding>(xcal: bool, s: &[u8], at: usize) -> Option<Da
     ensures { read_date_time (format_of xcal) (rest E.encoding s.now at) ≡ moment_of result }
 {
     let walk = follow_date_time::<E>(xcal, s, at)?;
-    let zone = zone_at::<E>(xcal, s, walk.next)?;
-    moment_from(walk.number, zone)
+    moment_from(walk.number, zone_at::<E>(xcal, s, walk.next))
 }
 
 pub fn put_moment(out: &mut [u8], o: usize, to: bool, moment: DateTime) -> usize

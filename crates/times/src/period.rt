@@ -81,7 +81,7 @@ pub fn read_period<E: Encoding>(s: &[u8], at: usize) -> Option<Period>
 {
     let walk = follow_date_time::<E>(false, s, at)?;
     let cut = slash_at::<E>(s, walk.next)?;
-    let start = moment_from(walk.number, cut.zone)?;
+    let start = moment_from(walk.number, Some(cut.zone))?;
     period_from::<E>(start, s, cut.next)
 }
 

@@ -1,6 +1,6 @@
 // TIME. See specs/Time.antt and specs/TimeAlong.antt.
 ghost use Rattle.std.specs.Prelude.{◌≡◌};
-ghost use Rattle.octets.specs.Reading.{or_nothing};
+ghost use Rattle.octets.specs.Reading.{and_then, or_nothing};
 ghost use Rattle.calendar.specs.Calendar.{format_of};
 ghost use Rattle.source.specs.Source.{rest};
 ghost use Rattle.sink.specs.Sink.{Put};
@@ -63,7 +63,7 @@ pub fn zone_at<E: Encoding>(exact: bool, s: &[u8], at: usize) -> Option<Zone>
 }
 
 // The time of six digits that are worth `n`, with a zone after them.
-pub fn clock_from(n: usize, zone: Zone) -> Option<Time>
+fn clock_in(n: usize, zone: Zone) -> Option<Time>
     ensures { clock_by n zone ≡ clock_of result }
 {
     let hour = (n / 10000 % 100) as u8;
@@ -82,6 +82,14 @@ pub fn clock_from(n: usize, zone: Zone) -> Option<Time>
     }
 }
 
+// The same of what stands after them: none where that is no zone.
+#[tactic(auto, unfolding(octets::specs::Reading::and_then))]
+pub fn clock_from(n: usize, zone: Option<Zone>) -> Option<Time>
+    ensures { and_then zone (clock_by n) ≡ clock_of result }
+{
+    clock_in(n, zone?)
+}
+
 fn follow_time<E: Encoding>(xcal: bool, s: &[u8], at: usize) -> Option<Walk>
     ensures { Walks (time_pattern (format_of xcal)) xcal E.encoding s.now at result }
 {
@@ -96,8 +104,7 @@ pub fn read_time<E: Encoding>(xcal: bool, s: &[u8], at: usize) -> Option<Time>
     ensures { read_time (format_of xcal) (rest E.encoding s.now at) ≡ clock_of result }
 {
     let walk = follow_time::<E>(xcal, s, at)?;
-    let zone = zone_at::<E>(xcal, s, walk.next)?;
-    clock_from(walk.number, zone)
+    clock_from(walk.number, zone_at::<E>(xcal, s, walk.next))
 }
 
 pub fn put_time<E: Encoding>(

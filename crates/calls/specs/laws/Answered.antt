@@ -2,6 +2,7 @@
 --     value_told        the one value of an answer is its place or its length: the other is 0
 --     number_small      every refusal's number is one byte
 --     answer_refusal    the answer of a number stands for the refusal of that number
+--     answer_back       that of a refusal's own number is that refusal's
 --     done_..           what the steps of a conversion do
 use Rattle.std.specs.Prelude.{◌≡◌, refl, Bool, true, false, List, [], ◌++◌, ℕ, zero, suc, ◌+◌, ◌^◌, ◌≤◌, ◌<◌, T, pos, nat_abs}
 use Rattle.std.proofs.Common.{sym, ap, ◌∙◌, Fits, to_z, le-leb, ne_eqb}
@@ -20,9 +21,10 @@ use Rattle.sink.specs.laws.Sink.{overwrite_fits}
 use Rattle.calls.specs.Conversion.{result, fault, Outcome, written, refusal, is_room, told, numbers, outcome, contents}
 use Rattle.refusals.specs.declared.Refusal as coded
 use Rattle.refusals.specs.Fault.{refusal_of}
+use Rattle.refusals.specs.declared.Refusal.TheVariants.{Length, Work, Character, Line, Name, Frame, Parameter, Value, Count, Xml, Json, Edition}
 use Rattle.calls.specs.Answered.{outcome_of, answer_at, Done}
 use Rattle.calls.specs.declared.Answer.{Answer}
-use Rattle.calls.specs.declared.Answer.TheVariants.{Written, Needs}
+use Rattle.calls.specs.declared.Answer.TheVariants.{Written, Needs, Refused}
 
 pub value_told : (o : Outcome) → ((numbers o).0 ≡ (told o).number) × ((numbers o).1 ≡ (told o).place + (told o).size)
 unfolding pick
@@ -84,6 +86,22 @@ answer_refusal (suc (suc (suc (suc (suc (suc (suc (suc (suc (suc (suc zero))))))
 answer_refusal (suc (suc (suc (suc (suc (suc (suc (suc (suc (suc (suc (suc zero)))))))))))) p = refl
 answer_refusal (suc (suc (suc (suc (suc (suc (suc (suc (suc (suc (suc (suc (suc zero))))))))))))) p = refl
 answer_refusal (suc (suc (suc (suc (suc (suc (suc (suc (suc (suc (suc (suc (suc (suc n)))))))))))))) p = simp unary_clauses (other (suc (suc (suc (suc (suc (suc (suc (suc (suc (suc (suc (suc (suc (suc n)))))))))))))) p (omega arith))
+
+-- the number of a refusal has its answer
+pub answer_back : (r : coded.Refusal) (p : ℕ) → answer_at (number_of (refusal_of r)) p ≡ Refused r p
+unfolding pick
+answer_back Length p = refl
+answer_back Work p = refl
+answer_back Character p = refl
+answer_back Line p = refl
+answer_back Name p = refl
+answer_back Frame p = refl
+answer_back Parameter p = refl
+answer_back Value p = refl
+answer_back Count p = refl
+answer_back Xml p = refl
+answer_back Json p = refl
+answer_back Edition p = refl
 
 pub done_fault : {x : Refusal} {p : ℕ} (d : List ℕ) {r : Answer} → outcome_of r ≡ refusal x p → Done (fault x p) d d r
 unfolding outcome contents

@@ -59,11 +59,11 @@ module _ (P : Where → ℕ → Type 0) (v : Bool) (m : ℕ) (s : List ℕ) (r :
 
 -- ---- no parameters
 
-module _ {m : ℕ} {s : List ℕ} {e : ℕ} {r : Result (Option ParameterCursors) Malformed} (a : ParamOf next_param m s e r) where
+module _ {m : ℕ} {s : List ℕ} {e : ℕ} {r : Result (Option ParameterCursors) (Malformed ParameterCursors)} (a : ParamOf next_param m s e r) where
   pub params_some : {p : ParameterCursors} → r ≡ Ok (Some p) → false ≡ is_empty (params_at m s e)
   params_some h = rw (param_more a h)
 
-  pub params_bad : {x : Malformed} → r ≡ Err x → true ≡ is_empty (params_at m s e)
+  pub params_bad : {x : Malformed ParameterCursors} → r ≡ Err x → true ≡ is_empty (params_at m s e)
   params_bad h = rw (param_fault a h)
 
   pub params_none : r ≡ Ok None → true ≡ is_empty (params_at m s e)

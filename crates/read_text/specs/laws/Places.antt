@@ -49,14 +49,14 @@ pub passing_start : (m : ℕ) (s : List ℕ) (e i : ℕ) → i < length (params_
 passing_start m s e i h = record { is = refl; more = h; to = onward_here e }
 
 module _ {m : ℕ} {s : List ℕ} {e i c left : ℕ} (p : Passing m s e i c left) where
-  module _ {r : Result (Option ParameterCursors) Malformed} (a : ParamOf next_param m s c r) where
+  module _ {r : Result (Option ParameterCursors) (Malformed ParameterCursors)} (a : ParamOf next_param m s c r) where
     none_left : {X : Type 0} → params_at m s c ≡ [] → X
     none_left h = let z : length (params_at m s c) ≡ 0 = ap length h in let l = p.more in absurd (omega (arith, z, l))
 
     pub passing_over : {X : Type 0} → r ≡ Ok None → X
     passing_over h = none_left (param_over a h)
 
-    pub passing_fault : {X : Type 0} {x : Malformed} → r ≡ Err x → X
+    pub passing_fault : {X : Type 0} {x : Malformed ParameterCursors} → r ≡ Err x → X
     passing_fault h = none_left (param_fault a h)
 
     pub passing_more : {v : ParameterCursors} → r ≡ Ok (Some v) → 0 < left → Passing m s e i v.next (left - 1)

@@ -122,7 +122,7 @@ carried_run xs = rw (off_run xs, starts_run (ascii "XML") xs refl)
 -- ---- all parameters of a line
 
 -- those from c on are left to test
-module _ {m : ℕ} {s : List ℕ} {c : ℕ} {v : Bool} {r : Result (Option ParameterCursors) Malformed} (e : v ≡ every carries_name (params_at m s c)) (a : ParamOf next_param m s c r) where
+module _ {m : ℕ} {s : List ℕ} {c : ℕ} {v : Bool} {r : Result (Option ParameterCursors) (Malformed ParameterCursors)} (e : v ≡ every carries_name (params_at m s c)) (a : ParamOf next_param m s c r) where
   module _ {t : Bool} {p : ParameterCursors} (h : r ≡ Ok (Some p)) (q : t ≡ is_carried_name (rest m s p.name)) where
     pub carried_more : t ≡ true → v ≡ every carries_name (params_at m s p.next)
     unfolding every ◌and◌
@@ -136,7 +136,7 @@ module _ {m : ℕ} {s : List ℕ} {c : ℕ} {v : Bool} {r : Result (Option Param
   unfolding every
   carried_over h = sym (e ∙ rw (param_over a h))
 
-  pub carried_fault : {x : Malformed} → r ≡ Err x → true ≡ v
+  pub carried_fault : {x : Malformed ParameterCursors} → r ≡ Err x → true ≡ v
   unfolding every
   carried_fault h = sym (e ∙ rw (param_fault a h))
 

@@ -1,10 +1,10 @@
 -- Laws of what specs/Cursor.antt defines.
 --     run_is, run_cut    what stands there
-use Rattle.std.specs.Prelude.{◌≡◌, Bool, ℕ, ◌-◌, ◌*◌, ◌<◌, eqb, length, take, Option, None, Some, Result, Ok, Err, IsErr}
+use Rattle.std.specs.Prelude.{◌≡◌, Bool, ℕ, ◌-◌, ◌*◌, ◌<◌, eqb, length, take, Option, None, Some, Result, Ok, Err, IsErrAnd}
 use Rattle.std.proofs.Math.Path.{refl, sym}
-use Rattle.std.proofs.Common.{◌∙◌, arith, rules}
+use Rattle.std.proofs.Common.{◌∙◌, ap, arith, rules}
 use Rattle.std.proofs.Math.Bool.{true, false}
-use Rattle.std.proofs.lemmas.Bool.{false≢true}
+use Rattle.std.proofs.lemmas.Result.{err_from_is_err_and}
 use mathlib.Core.List.{List, [], ◌∷◌}
 use borrow.Author.Tests.{eq-eqb, ne_eqb, eqb-false}
 use Rattle.octets.specs.Pick.{pick}
@@ -17,7 +17,7 @@ use Rattle.octets.specs.Many.{One}
 use Rattle.source.specs.Source.{rest, spell, cuts, Reads}
 use Rattle.source.specs.laws.Facts.{rest_byte, cut_is, reach_here, reach_on}
 use Rattle.source.specs.declared.points.Unit.{Unit}
-use Rattle.read_text_line.specs.Cursor.{Onward, OnwardTo, in_line, RunEnds, OnItem, ItemAt}
+use Rattle.read_text_line.specs.Cursor.{Onward, OnwardTo, in_line, RunEnds, OnRead, ItemAt}
 use Rattle.read_text_line.specs.declared.Malformed.{Malformed}
 
 -- ---- cursors
@@ -96,29 +96,28 @@ run_as e q = rw e q
 pub ruleset passing = (passing_start, passing_more, passing_less, passing_stop, run_as, flag_yes, flag_no, rules)
 
 -- what is read from a later cursor on
-pub onward_then : {m : ℕ} {s : List ℕ} {a b : ℕ} (r : Result ℕ Malformed) → Onward m s a b → OnwardTo m s b r → OnwardTo m s a r
+pub onward_then : {m : ℕ} {s : List ℕ} {a b : ℕ} (r : Result ℕ (Malformed ℕ)) → Onward m s a b → OnwardTo m s b r → OnwardTo m s a r
 onward_then (Ok c) p q = onward_both p q
-onward_then (Err e) p q = tt
+onward_then (Err e) p q = onward_both p q
 
--- there is one fault only
-pub err_any : {T : Type 0} (r : Result T Malformed) (x : Malformed) → IsErr r → r ≡ Err x
-err_any (Ok v) x h = absurd (false≢true h)
-err_any (Err y) x h = refl
+-- the fault that `?` hands on
+pub passed_on : {A C : Type 0} (r : Result A (Malformed C)) (x : Malformed C) → IsErrAnd r (λ y. y ≡ x) → r ≡ Err x
+passed_on r x h = let p = err_from_is_err_and r h in p.1 ∙ ap Err p.2
 
 -- ---- an item at a cursor
 
-pub on_item : {C : Type 0} (P Q : C → Type 0) (r : Result (Option C) Malformed) → ((v : C) → P v → Q v) → OnItem r P → OnItem r Q
-on_item P Q (Ok (Some v)) f h = f v h
-on_item P Q (Ok None) f h = tt
-on_item P Q (Err e) f h = tt
+pub on_read : {C : Type 0} (P Q : C → Type 0) (r : Result (Option C) (Malformed C)) → ((v : C) → P v → Q v) → OnRead r P → OnRead r Q
+on_read P Q (Ok (Some v)) f h = f v h
+on_read P Q (Ok None) f h = tt
+on_read P Q (Err e) f h = f e.read h
 
 module _ {C A : Type 0} {p : List ℕ → One A} {m : ℕ} {s : List ℕ} {c : ℕ} {n : Unit} {item : C → A} {behind : C → ℕ} (b : ℕ) (q : List ℕ → One A) (d : One A) (e : (xs : List ℕ) → p xs ≡ after_byte b xs q d) (t : Reads m s c n) where
   -- an item behind a byte
-  pub item_behind : {r : Result (Option C) Malformed} → (b ≡ 256 → ⊥) → n.u ≡ b → ItemAt q m s n.next item behind r → ItemAt p m s c item behind r
+  pub item_behind : {r : Result (Option C) (Malformed C)} → (b ≡ 256 → ⊥) → n.u ≡ b → ItemAt q m s n.next item behind r → ItemAt p m s c item behind r
   item_behind {r} h k i = record {
     fault = i.fault;
     is = e (rest m s c) ∙ byte_at t b q d k h ∙ i.is;
-    to = on_item (λ (v : C). Onward m s n.next (behind v)) (λ (v : C). Onward m s c (behind v)) r (λ v o. onward_both (onward_byte t (λ z. h (sym k ∙ z))) o) i.to;
+    to = on_read (λ (v : C). Onward m s n.next (behind v)) (λ (v : C). Onward m s c (behind v)) r (λ v o. onward_both (onward_byte t (λ z. h (sym k ∙ z))) o) i.to;
   }
 
   pub item_not : d ≡ One.none → (n.u ≡ b → ⊥) → ItemAt p m s c item behind (Ok None)

@@ -59,12 +59,12 @@ module _ {m : ℕ} {s : List ℕ} {c : ℕ} {t : Bool} (k : t ≡ is_empty (run_
   unfolding content_line
   line_unnamed h = record { is = pick_yes _ _ _ (sym k ∙ h); parts = tt }
 
-  module _ {e : ℕ} {p : Result ℕ Malformed} (h : t ≡ false) (n : NameEnds m s c e) (a : AllAt next_param m s e p) where
+  module _ {e : ℕ} {p : Result ℕ (Malformed ℕ)} (h : t ≡ false) (n : NameEnds m s c e) (a : AllAt next_param m s e p) where
     named_line : content_line (rest m s c) ≡ with_value (all_at m s (items next_param (rest m s e)) p a.fault) (run_of is_name_char (rest m s c))
     unfolding content_line
     named_line = pick_no _ _ _ (sym k ∙ h) ∙ rw (← (name_run n).left, a.is)
 
-    pub line_faulty : {x : Malformed} → p ≡ Err x → LineAt m s c None
+    pub line_faulty : {x : Malformed ℕ} → p ≡ Err x → LineAt m s c None
     unfolding with_value
     line_faulty f = record { is = named_line ∙ rw f; parts = tt }
 

@@ -37,7 +37,7 @@ pub record Walk {A : Type 0} (p : List ℕ → One A) (m : ℕ) (s : List ℕ) (
 pub walk_start : {A : Type 0} (p : List ℕ → One A) (m : ℕ) (s : List ℕ) (c : ℕ) → Walk p m s c c
 walk_start p m s c = record { good = λ r e. e; wrong = λ r e. e; to = onward_here c }
 
-module _ {C A : Type 0} {p : List ℕ → One A} {m : ℕ} {s : List ℕ} {c : ℕ} {item : C → A} {behind : C → ℕ} {r : Result (Option C) Malformed} (i : ItemAt p m s c item behind r) where
+module _ {C A : Type 0} {p : List ℕ → One A} {m : ℕ} {s : List ℕ} {c : ℕ} {item : C → A} {behind : C → ℕ} {r : Result (Option C) (Malformed C)} (i : ItemAt p m s c item behind r) where
   pub item_got : {v : C} → r ≡ Ok (Some v) → p (rest m s c) ≡ got (item v) (rest m s (behind v))
   item_got e = i.is ∙ rw e
 
@@ -47,7 +47,7 @@ module _ {C A : Type 0} {p : List ℕ → One A} {m : ℕ} {s : List ℕ} {c : �
   pub item_none : r ≡ Ok None → p (rest m s c) ≡ One.none
   item_none e = i.is ∙ rw e
 
-  pub item_bad : {x : Malformed} → r ≡ Err x → p (rest m s c) ≡ bad i.fault
+  pub item_bad : {x : Malformed C} → r ≡ Err x → p (rest m s c) ≡ bad i.fault
   item_bad e = i.is ∙ rw e
 
   module _ (t : Takes p) where
@@ -75,11 +75,11 @@ module _ {C A : Type 0} {p : List ℕ → One A} {m : ℕ} {s : List ℕ} {c : �
   pub items_none_here : r ≡ Ok None → items p (rest m s c) ≡ []
   items_none_here e = items-none p (rest m s c) (item_none e)
 
-  pub items_bad_here : {x : Malformed} → r ≡ Err x → items p (rest m s c) ≡ []
+  pub items_bad_here : {x : Malformed C} → r ≡ Err x → items p (rest m s c) ≡ []
   items_bad_here e = items_bad p (rest m s c) i.fault (item_bad e)
 
   pub walk_end : {c₀ : ℕ} → Walk p m s c₀ c → r ≡ Ok None → AllAt p m s c₀ (Ok c)
   walk_end w e = record { fault = []; is = w.good (rest m s c) (many-none p (rest m s c) (item_none e) ∙ rw (items_none_here e)); to = w.to }
 
-  pub walk_bad : {c₀ : ℕ} {x : Malformed} → Walk p m s c₀ c → r ≡ Err x → AllAt p m s c₀ (Err x)
-  walk_bad w e = record { fault = i.fault; is = w.wrong i.fault (many-bad p (rest m s c) i.fault (item_bad e)); to = tt }
+  pub walk_bad : {c₀ : ℕ} {x : Malformed C} → Walk p m s c₀ c → r ≡ Err x → AllAt p m s c₀ (Err (record { read = c }))
+  walk_bad w e = record { fault = i.fault; is = w.wrong i.fault (many-bad p (rest m s c) i.fault (item_bad e)); to = w.to }

@@ -10,8 +10,8 @@ use Rattle.source.specs.Source.{rest, cuts, Reads}
 use Rattle.source.specs.declared.points.Unit.{Unit}
 use Rattle.read_text_line.specs.ContentLine.{ParamValue, is_q_safe_char, is_safe_char, paramtext, quoted_string, param_value, next_value, with_values, with_first}
 use Rattle.read_text_line.specs.Items.{items}
-use Rattle.read_text_line.specs.Cursor.{Onward, RunEnds, OnItem, one_to, values_of, values_at}
-use Rattle.read_text_line.specs.laws.Cursor.{onward_here, onward_both, onward_byte, onward_then, byte_at, byte_not, run_cut, on_item, item_behind, item_not}
+use Rattle.read_text_line.specs.Cursor.{Onward, RunEnds, OnRead, one_to, values_of, values_at}
+use Rattle.read_text_line.specs.laws.Cursor.{onward_here, onward_both, onward_byte, onward_then, byte_at, byte_not, run_cut, on_read, item_behind, item_not}
 use Rattle.read_text_line.specs.Repeating.{all_at, AllAt}
 use Rattle.read_text_line.specs.laws.Repeating.{item_got, item_to, item_bad, items_more, items_none_here, items_bad_here, walk_less, value_takes}
 use Rattle.read_text_line.specs.Values.{chars_in, value_of, ValueParts, ValueAt, ValuesAt}
@@ -30,20 +30,23 @@ module _ {m : ℕ} {s : List ℕ} {c : ℕ} where
           parts = record { start = onward_here c; chars = e; behind = b };
         }
 
-    pub quoted_broken : {x : Malformed} → (n.u ≡ 34 → ⊥) → ValueAt quoted_string m s c (Err x)
+    pub quoted_broken : (n.u ≡ 34 → ⊥) → ValueAt quoted_string m s c (Err (record { read = record { quoted = true; from = c; to = t; next = t } }))
     unfolding quoted_string
-    quoted_broken h = record { item = record { fault = rest m s c; is = rw (← e.left) (byte_not p 34 _ _ h); to = tt }; parts = tt }
+    quoted_broken h = record {
+      item = record { fault = rest m s c; is = rw (← e.left) (byte_not p 34 _ _ h); to = e.to };
+      parts = record { start = onward_here c; chars = e; behind = onward_here t };
+    }
 
   -- ---- param-value, and "," param-value
 
   module _ {n : Unit} (p : Reads m s c n) where
-    parts_on : (r : Result (Option ValueCursors) Malformed) → (n.u ≡ 256 → ⊥) → OnItem r (ValueParts m s n.next) → OnItem r (ValueParts m s c)
-    parts_on r h = on_item (ValueParts m s n.next) (ValueParts m s c) r (λ v a. record { start = onward_both (onward_byte p h) a.start; chars = a.chars; behind = a.behind })
+    parts_on : (r : Result (Option ValueCursors) (Malformed ValueCursors)) → (n.u ≡ 256 → ⊥) → OnRead r (ValueParts m s n.next) → OnRead r (ValueParts m s c)
+    parts_on r h = on_read (ValueParts m s n.next) (ValueParts m s c) r (λ v a. record { start = onward_both (onward_byte p h) a.start; chars = a.chars; behind = a.behind })
 
-    pub value_quoted : {r : Result (Option ValueCursors) Malformed} → n.u ≡ 34 → ValueAt quoted_string m s n.next r → ValueAt param_value m s c r
+    pub value_quoted : {r : Result (Option ValueCursors) (Malformed ValueCursors)} → n.u ≡ 34 → ValueAt quoted_string m s n.next r → ValueAt param_value m s c r
     unfolding param_value
     value_quoted {r} h v = record {
-      item = record { fault = v.item.fault; is = byte_at p 34 _ _ h (λ z. omega arith) ∙ v.item.is; to = on_item (λ (a : ValueCursors). Onward m s n.next a.next) (λ (a : ValueCursors). Onward m s c a.next) r (λ a o. onward_both (onward_byte p (λ z. omega arith)) o) v.item.to };
+      item = record { fault = v.item.fault; is = byte_at p 34 _ _ h (λ z. omega arith) ∙ v.item.is; to = on_read (λ (a : ValueCursors). Onward m s n.next a.next) (λ (a : ValueCursors). Onward m s c a.next) r (λ a o. onward_both (onward_byte p (λ z. omega arith)) o) v.item.to };
       parts = parts_on r (λ z. omega arith) v.parts;
     }
 
@@ -54,7 +57,7 @@ module _ {m : ℕ} {s : List ℕ} {c : ℕ} where
       parts = record { start = onward_here c; chars = e; behind = onward_here t };
     }
 
-    pub next_there : {r : Result (Option ValueCursors) Malformed} → n.u ≡ 44 → ValueAt param_value m s n.next r → ValueAt next_value m s c r
+    pub next_there : {r : Result (Option ValueCursors) (Malformed ValueCursors)} → n.u ≡ 44 → ValueAt param_value m s n.next r → ValueAt next_value m s c r
     unfolding next_value
     next_there {r} h v = record {
       item = item_behind 44 param_value One.none (λ xs. refl) p (λ z. omega arith) h v.item;
@@ -67,13 +70,13 @@ module _ {m : ℕ} {s : List ℕ} {c : ℕ} where
 
 -- ---- all values
 
-values_joined : (m : ℕ) (s : List ℕ) (k : Result ℕ Malformed) (n : List ℕ) (v : ParamValue) (l : List ParamValue) (f : List ℕ) → with_values (all_at m s l k f) n v ≡ one_to m s (record { name = n; values = v ∷ l }) k f
+values_joined : (m : ℕ) (s : List ℕ) (k : Result ℕ (Malformed ℕ)) (n : List ℕ) (v : ParamValue) (l : List ParamValue) (f : List ℕ) → with_values (all_at m s l k f) n v ≡ one_to m s (record { name = n; values = v ∷ l }) k f
 unfolding with_values
 values_joined m s (Ok next) n v l f = refl
 values_joined m s (Err e) n v l f = refl
 
-module _ {m : ℕ} {s : List ℕ} {c : ℕ} {r : Result (Option ValueCursors) Malformed} (v : ValueAt param_value m s c r) where
-  pub values_all : {k : Result ℕ Malformed} {a : ValueCursors} → r ≡ Ok (Some a) → AllAt next_value m s a.next k → ValuesAt m s c k
+module _ {m : ℕ} {s : List ℕ} {c : ℕ} {r : Result (Option ValueCursors) (Malformed ValueCursors)} (v : ValueAt param_value m s c r) where
+  pub values_all : {k : Result ℕ (Malformed ℕ)} {a : ValueCursors} → r ≡ Ok (Some a) → AllAt next_value m s a.next k → ValuesAt m s c k
   unfolding with_first values_of
   values_all {k} {a} e all =
       record {
@@ -82,9 +85,9 @@ module _ {m : ℕ} {s : List ℕ} {c : ℕ} {r : Result (Option ValueCursors) Ma
         to = onward_then k (item_to v.item e) all.to;
       }
 
-  pub values_bad : {x : Malformed} → r ≡ Err x → ValuesAt m s c (Err x)
+  pub values_bad : {x : Malformed ValueCursors} → r ≡ Err x → ValuesAt m s c (Err (record { read = c }))
   unfolding with_first
-  values_bad e = record { fault = v.item.fault; is = λ n. rw (item_bad v.item e); to = tt }
+  values_bad e = record { fault = v.item.fault; is = λ n. rw (item_bad v.item e); to = onward_here c }
 
   -- the first value, and those that follow it
   pub value_first : {a : ValueCursors} → r ≡ Ok (Some a) → values_at m s c ≡ value_of m s a ∷ items next_value (rest m s a.next)
@@ -92,7 +95,7 @@ module _ {m : ℕ} {s : List ℕ} {c : ℕ} {r : Result (Option ValueCursors) Ma
   value_first e = rw (item_got v.item e)
 
 -- one value more, or the end
-module _ {m : ℕ} {s : List ℕ} {c : ℕ} {r : Result (Option ValueCursors) Malformed} (v : ValueAt next_value m s c r) where
+module _ {m : ℕ} {s : List ℕ} {c : ℕ} {r : Result (Option ValueCursors) (Malformed ValueCursors)} (v : ValueAt next_value m s c r) where
   pub value_more : {a : ValueCursors} → r ≡ Ok (Some a) → items next_value (rest m s c) ≡ value_of m s a ∷ items next_value (rest m s a.next)
   value_more = items_more v.item value_takes
 
@@ -102,14 +105,14 @@ module _ {m : ℕ} {s : List ℕ} {c : ℕ} {r : Result (Option ValueCursors) Ma
   pub value_over : r ≡ Ok None → items next_value (rest m s c) ≡ []
   value_over = items_none_here v.item
 
-  pub value_fault : {x : Malformed} → r ≡ Err x → items next_value (rest m s c) ≡ []
+  pub value_fault : {x : Malformed ValueCursors} → r ≡ Err x → items next_value (rest m s c) ≡ []
   value_fault = items_bad_here v.item
 
 -- where the parts of a value that is there stand
-pub value_parts : {p : List ℕ → One ParamValue} {m : ℕ} {s : List ℕ} {c : ℕ} {r : Result (Option ValueCursors) Malformed} {a : ValueCursors} → ValueAt p m s c r → r ≡ Ok (Some a) → ValueParts m s c a
+pub value_parts : {p : List ℕ → One ParamValue} {m : ℕ} {s : List ℕ} {c : ℕ} {r : Result (Option ValueCursors) (Malformed ValueCursors)} {a : ValueCursors} → ValueAt p m s c r → r ≡ Ok (Some a) → ValueParts m s c a
 value_parts v e = rw e at v.parts
 
 -- what is lent, cut at the end of a value's characters, is these
-pub value_chars : {p : List ℕ → One ParamValue} {m : ℕ} {s : List ℕ} {c : ℕ} {r : Result (Option ValueCursors) Malformed} {a : ValueCursors} → cuts m ≡ true → ValueAt p m s c r → r ≡ Ok (Some a) →
+pub value_chars : {p : List ℕ → One ParamValue} {m : ℕ} {s : List ℕ} {c : ℕ} {r : Result (Option ValueCursors) (Malformed ValueCursors)} {a : ValueCursors} → cuts m ≡ true → ValueAt p m s c r → r ≡ Ok (Some a) →
     rest m (take a.to s) a.from ≡ run_of (chars_in a.quoted) (rest m s a.from)
 value_chars y v e = run_cut y (value_parts v e).chars

@@ -76,7 +76,7 @@ module _ (w : List ℕ) where
 
 -- ---- one word, in the encoding u of a value
 
-module _ (ed : Edition) {m : ℕ} (y : cuts m ≡ true) (w : List ℕ) {s : List ℕ} {c : ℕ} {r : Result (Option ValueCursors) Malformed} (v : ValueAt param_value m s c r) where
+module _ (ed : Edition) {m : ℕ} (y : cuts m ≡ true) (w : List ℕ) {s : List ℕ} {c : ℕ} {r : Result (Option ValueCursors) (Malformed ValueCursors)} (v : ValueAt param_value m s c r) where
   module _ {b : Bool} {vc : ValueCursors} (h : r ≡ Ok (Some vc)) (e : b ≡ same (upper (decode ed (rest m (take vc.to s) vc.from))) w) where
     pub word_one : {a : Bool} → b ≡ true → a ≡ is_empty (items next_value (rest m s vc.next)) → a ≡ is_word w (values_in ed m s c)
     word_one k f = and_go _ _ _ (sym e ∙ k) (f ∙ sym (map_empty (decoded_value ed) (items next_value (rest m s vc.next)))) ∙ sym (ap (λ (l : List ParamValue). is_word w (map (decoded_value ed) l)) (values_first y v h))
@@ -84,5 +84,5 @@ module _ (ed : Edition) {m : ℕ} (y : cuts m ≡ true) (w : List ℕ) {s : List
     pub word_other : b ≡ false → false ≡ is_word w (values_in ed m s c)
     word_other k = and_stop _ _ (sym e ∙ k) ∙ sym (ap (λ (l : List ParamValue). is_word w (map (decoded_value ed) l)) (values_first y v h))
 
-  pub word_none : {x : Malformed} → r ≡ Err x → false ≡ is_word w (values_in ed m s c)
+  pub word_none : {x : Malformed ValueCursors} → r ≡ Err x → false ≡ is_word w (values_in ed m s c)
   word_none h = sym (ap (λ (l : List ParamValue). is_word w (map (decoded_value ed) l)) (values_none y v h))

@@ -29,7 +29,7 @@ pub collect_start : (m : ℕ) (s : List ℕ) (e : ℕ) (f t : List ℕ) → Coll
 unfolding listed
 collect_start m s e f t = record { are = refl }
 
-module _ {m : ℕ} {s : List ℕ} {e : ℕ} {f t : List ℕ} {k c : ℕ} {r : Result (Option ParameterCursors) Malformed} (y : cuts m ≡ true) (i : Collecting m s e f t k c) (a : ParamOf next_param m s c r) where
+module _ {m : ℕ} {s : List ℕ} {e : ℕ} {f t : List ℕ} {k c : ℕ} {r : Result (Option ParameterCursors) (Malformed ParameterCursors)} (y : cuts m ≡ true) (i : Collecting m s e f t k c) (a : ParamOf next_param m s c r) where
   pub collect_more : {g u : List ℕ} {pc : ParameterCursors} → r ≡ Ok (Some pc) → Keeps f t k pc.name pc.end g u → Collecting m s e g u (k + 1) pc.next
   collect_more {pc = pc} h p = record {
     are = params_step y (λ (rs : List RawParameter). listed k (word_at m s f t) (names_of rs)) i.are a h ∙ keeps_more m s p (names_of (params_at m s pc.next));
@@ -38,7 +38,7 @@ module _ {m : ℕ} {s : List ℕ} {e : ℕ} {f t : List ℕ} {k c : ℕ} {r : Re
   pub collect_over : r ≡ Ok None → names_of (params_at m s e) ≡ listed k (word_at m s f t) []
   collect_over h = params_over y (λ (rs : List RawParameter). listed k (word_at m s f t) (names_of rs)) i.are a h
 
-  pub collect_fault : {x : Malformed} → r ≡ Err x → names_of (params_at m s e) ≡ listed k (word_at m s f t) []
+  pub collect_fault : {x : Malformed ParameterCursors} → r ≡ Err x → names_of (params_at m s e) ≡ listed k (word_at m s f t) []
   collect_fault h = params_fault y (λ (rs : List RawParameter). listed k (word_at m s f t) (names_of rs)) i.are a h
 
 -- ---- compared with all before them
@@ -47,7 +47,7 @@ pub compared_start : (m : ℕ) (s : List ℕ) (e : ℕ) → Comparing m s e 0 e
 unfolding onto
 compared_start m s e = record { before = []; names = refl; count = refl; comes = omega arith; past = omega arith }
 
-module _ {m : ℕ} {s : List ℕ} {e k c : ℕ} {r : Result (Option ParameterCursors) Malformed} (y : cuts m ≡ true) (i : Comparing m s e k c) (a : ParamOf next_param m s c r) where
+module _ {m : ℕ} {s : List ℕ} {e k c : ℕ} {r : Result (Option ParameterCursors) (Malformed ParameterCursors)} (y : cuts m ≡ true) (i : Comparing m s e k c) (a : ParamOf next_param m s c r) where
   compared_over_by : params_at m s c ≡ [] → k ≡ first_again [] (names_of (params_at m s e))
   unfolding first_again
   compared_over_by h = sym (i.comes ∙ rw h (omega arith))
@@ -55,7 +55,7 @@ module _ {m : ℕ} {s : List ℕ} {e k c : ℕ} {r : Result (Option ParameterCur
   pub compared_over : r ≡ Ok None → k ≡ first_again [] (names_of (params_at m s e))
   compared_over h = compared_over_by (params_over y (λ (rs : List RawParameter). rs) refl a h)
 
-  pub compared_fault : {x : Malformed} → r ≡ Err x → k ≡ first_again [] (names_of (params_at m s e))
+  pub compared_fault : {x : Malformed ParameterCursors} → r ≡ Err x → k ≡ first_again [] (names_of (params_at m s e))
   compared_fault h = compared_over_by (params_fault y (λ (rs : List RawParameter). rs) refl a h)
 
   module _ {b : Bool} {pc : ParameterCursors} (h : r ≡ Ok (Some pc)) (g : b ≡ is_one_of (name_cut m s pc.name pc.end) (take k (names_of (params_at m s e)))) where

@@ -17,7 +17,7 @@ use Rattle.read_text_line.specs.laws.Repeating.{item_bad}
 use Rattle.read_text_line.specs.Values.{ValueAt}
 use Rattle.read_text_line.specs.laws.Values.{value_first, value_more, value_over, value_fault, value_chars}
 use Rattle.read_text_line.specs.Params.{ParamOf}
-use Rattle.read_text_line.specs.laws.Params.{name_chars, param_more, param_parts, param_over, param_fault}
+use Rattle.read_text_line.specs.laws.Params.{name_chars, param_more, param_name, param_over, param_fault}
 use Rattle.read_text_line.specs.declared.Malformed.{Malformed}
 use Rattle.read_text_line.specs.declared.ValueCursors.{ValueCursors}
 use Rattle.read_text_line.specs.declared.ParameterCursors.{ParameterCursors}
@@ -28,53 +28,53 @@ cut_at f m s c to h p = p ∙ ap (λ (l : List ℕ). f (rest m l c)) (rw h (take
 
 -- ---- parameters
 
-module _ {m : ℕ} (y : cuts m ≡ true) {A : Type 0} (F : List RawParameter → A) {v : A} {s : List ℕ} {c : ℕ} {r : Result (Option ParameterCursors) Malformed} (e : v ≡ F (params_at m s c)) (a : ParamOf next_param m s c r) where
+module _ {m : ℕ} (y : cuts m ≡ true) {A : Type 0} (F : List RawParameter → A) {v : A} {s : List ℕ} {c : ℕ} {r : Result (Option ParameterCursors) (Malformed ParameterCursors)} (e : v ≡ F (params_at m s c)) (a : ParamOf next_param m s c r) where
   pub params_step : {pc : ParameterCursors} → r ≡ Ok (Some pc) → v ≡ F (param_cut m s pc.name pc.end pc.first ∷ params_at m s pc.next)
-  params_step h = e ∙ ap F (param_more a h) ∙ rw (name_chars y (param_parts a h).named)
+  params_step h = e ∙ ap F (param_more a h) ∙ rw (name_chars y (param_name a h))
 
   pub params_over : r ≡ Ok None → v ≡ F []
   params_over h = e ∙ ap F (param_over a h)
 
-  pub params_fault : {x : Malformed} → r ≡ Err x → v ≡ F []
+  pub params_fault : {x : Malformed ParameterCursors} → r ≡ Err x → v ≡ F []
   params_fault h = e ∙ ap F (param_fault a h)
 
 -- the same as an edition reads them
-module _ (ed : Edition) {m : ℕ} (y : cuts m ≡ true) {A : Type 0} (F : List RawParameter → A) {v : A} {s : List ℕ} {c : ℕ} {r : Result (Option ParameterCursors) Malformed} (e : v ≡ F (params_in ed m s c)) (a : ParamOf next_param m s c r) where
+module _ (ed : Edition) {m : ℕ} (y : cuts m ≡ true) {A : Type 0} (F : List RawParameter → A) {v : A} {s : List ℕ} {c : ℕ} {r : Result (Option ParameterCursors) (Malformed ParameterCursors)} (e : v ≡ F (params_in ed m s c)) (a : ParamOf next_param m s c r) where
   pub read_step : {pc : ParameterCursors} → r ≡ Ok (Some pc) → v ≡ F (param_read ed m s pc.name pc.end pc.first ∷ params_in ed m s pc.next)
   read_step h = params_step y (λ (l : List RawParameter). F (map (decoded_parameter ed) l)) e a h
 
   pub read_over : r ≡ Ok None → v ≡ F []
   read_over h = params_over y (λ (l : List RawParameter). F (map (decoded_parameter ed) l)) e a h
 
-  pub read_fault : {x : Malformed} → r ≡ Err x → v ≡ F []
+  pub read_fault : {x : Malformed ParameterCursors} → r ≡ Err x → v ≡ F []
   read_fault h = params_fault y (λ (l : List RawParameter). F (map (decoded_parameter ed) l)) e a h
 
 -- ---- values
 
-module _ {m : ℕ} {s : List ℕ} {c : ℕ} {r : Result (Option ValueCursors) Malformed} (y : cuts m ≡ true) (v : ValueAt param_value m s c r) where
+module _ {m : ℕ} {s : List ℕ} {c : ℕ} {r : Result (Option ValueCursors) (Malformed ValueCursors)} (y : cuts m ≡ true) (v : ValueAt param_value m s c r) where
   pub values_first : {vc : ValueCursors} → r ≡ Ok (Some vc) → values_at m s c ≡ value_cut m s vc.quoted vc.from vc.to ∷ items next_value (rest m s vc.next)
   values_first h = value_first v h ∙ rw (value_chars y v h)
 
-  pub values_none : {z : Malformed} → r ≡ Err z → values_at m s c ≡ []
+  pub values_none : {z : Malformed ValueCursors} → r ≡ Err z → values_at m s c ≡ []
   unfolding values_of
   values_none h = rw (item_bad v.item h)
 
-module _ {m : ℕ} (y : cuts m ≡ true) {A : Type 0} (F : List ParamValue → A) {x : A} {s : List ℕ} {c : ℕ} {r : Result (Option ValueCursors) Malformed} (e : x ≡ F (items next_value (rest m s c))) (v : ValueAt next_value m s c r) where
+module _ {m : ℕ} (y : cuts m ≡ true) {A : Type 0} (F : List ParamValue → A) {x : A} {s : List ℕ} {c : ℕ} {r : Result (Option ValueCursors) (Malformed ValueCursors)} (e : x ≡ F (items next_value (rest m s c))) (v : ValueAt next_value m s c r) where
   pub values_step : {vc : ValueCursors} → r ≡ Ok (Some vc) → x ≡ F (value_cut m s vc.quoted vc.from vc.to ∷ items next_value (rest m s vc.next))
   values_step h = e ∙ ap F (value_more v h) ∙ rw (value_chars y v h)
 
   pub values_over : r ≡ Ok None → x ≡ F []
   values_over h = e ∙ ap F (value_over v h)
 
-  pub values_fault : {z : Malformed} → r ≡ Err z → x ≡ F []
+  pub values_fault : {z : Malformed ValueCursors} → r ≡ Err z → x ≡ F []
   values_fault h = e ∙ ap F (value_fault v h)
 
 -- whether a value follows
-module _ {m : ℕ} {s : List ℕ} {c : ℕ} {r : Result (Option ValueCursors) Malformed} (y : cuts m ≡ true) (v : ValueAt next_value m s c r) where
+module _ {m : ℕ} {s : List ℕ} {c : ℕ} {r : Result (Option ValueCursors) (Malformed ValueCursors)} (y : cuts m ≡ true) (v : ValueAt next_value m s c r) where
   pub last_more : {vc : ValueCursors} → r ≡ Ok (Some vc) → false ≡ is_empty (items next_value (rest m s c))
   last_more h = sym (values_step y is_empty refl v h)
 
-  pub last_fault : {z : Malformed} → r ≡ Err z → true ≡ is_empty (items next_value (rest m s c))
+  pub last_fault : {z : Malformed ValueCursors} → r ≡ Err z → true ≡ is_empty (items next_value (rest m s c))
   last_fault h = sym (values_fault y is_empty refl v h)
 
   pub last_over : r ≡ Ok None → true ≡ is_empty (items next_value (rest m s c))

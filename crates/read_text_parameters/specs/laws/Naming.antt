@@ -25,7 +25,7 @@ use Rattle.read_text_parameters.specs.Naming.{name_unit, name_at, NameAt}
 
 -- ---- the name of the parameter at a cursor
 
-pub name_there : {m : ℕ} {s : List ℕ} {c : ℕ} {r : Result (Option ParameterCursors) Malformed} {pc : ParameterCursors} → ParamOf next_param m s c r → r ≡ Ok (Some pc) → pc.name < pc.next → NameAt m s c (record { name = pc.name; next = pc.next })
+pub name_there : {m : ℕ} {s : List ℕ} {c : ℕ} {r : Result (Option ParameterCursors) (Malformed ParameterCursors)} {pc : ParameterCursors} → ParamOf next_param m s c r → r ≡ Ok (Some pc) → pc.name < pc.next → NameAt m s c (record { name = pc.name; next = pc.next })
 unfolding name_at
 name_there a h l = record { is = ap names_of (param_more a h); onward = (param_parts a h).start.onward; past = l }
 

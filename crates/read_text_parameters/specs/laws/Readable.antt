@@ -78,7 +78,7 @@ all_read rs = each_read read_parameter (λ r. is_read (read_parameter r)) (λ r.
 -- ---- for code
 
 -- the values of a parameter, tested one by one
-module _ {m : ℕ} (y : cuts m ≡ true) (p : ParamValue → Bool) {s : List ℕ} {c : ℕ} {r : Result (Option ValueCursors) Malformed} {vc : ValueCursors} {t : Bool} (q : t ≡ p (value_cut m s vc.quoted vc.from vc.to)) where
+module _ {m : ℕ} (y : cuts m ≡ true) (p : ParamValue → Bool) {s : List ℕ} {c : ℕ} {r : Result (Option ValueCursors) (Malformed ValueCursors)} {vc : ValueCursors} {t : Bool} (q : t ≡ p (value_cut m s vc.quoted vc.from vc.to)) where
   module _ (v : ValueAt param_value m s c r) (h : r ≡ Ok (Some vc)) where
     pub first_go : {b : Bool} → t ≡ true → b ≡ every p (items next_value (rest m s vc.next)) → b ≡ every p (values_at m s c)
     first_go z e = e ∙ sym (ap (every p) (values_first y v h) ∙ every_go p _ _ q z)
@@ -93,11 +93,11 @@ module _ {m : ℕ} (y : cuts m ≡ true) (p : ParamValue → Bool) {s : List ℕ
     pub later_halt : t ≡ false → false ≡ b
     later_halt z = sym (values_step y (every p) e v h ∙ every_halt p _ _ q z)
 
-module _ {m : ℕ} {s : List ℕ} {c : ℕ} {r : Result (Option ValueCursors) Malformed} (y : cuts m ≡ true) (v : ValueAt param_value m s c r) where
+module _ {m : ℕ} {s : List ℕ} {c : ℕ} {r : Result (Option ValueCursors) (Malformed ValueCursors)} (y : cuts m ≡ true) (v : ValueAt param_value m s c r) where
   pub single_first : {b : Bool} {vc : ValueCursors} → r ≡ Ok (Some vc) → b ≡ is_empty (items next_value (rest m s vc.next)) → b ≡ is_single (values_at m s c)
   single_first h e = e ∙ sym (ap is_single (values_first y v h))
 
-  pub single_none : {x : Malformed} → r ≡ Err x → false ≡ is_single (values_at m s c)
+  pub single_none : {x : Malformed ValueCursors} → r ≡ Err x → false ≡ is_single (values_at m s c)
   single_none h = sym (ap is_single (values_none y v h))
 
 module _ (n : List ℕ) (vs : List ParamValue) {b : Bool} (e : b ≡ same (upper n) (ascii "VALUE")) where

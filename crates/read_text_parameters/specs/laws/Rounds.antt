@@ -242,11 +242,11 @@ passed_all p = p.compared
 
 -- ---- the end
 
-module _ {m : ℕ} {s : List ℕ} {e k c : ℕ} {r : Result (Option ParameterCursors) Malformed} (y : cuts m ≡ true) (a : ParamOf next_param m s c r) where
+module _ {m : ℕ} {s : List ℕ} {e k c : ℕ} {r : Result (Option ParameterCursors) (Malformed ParameterCursors)} (y : cuts m ≡ true) (a : ParamOf next_param m s c r) where
   pub ends_over : r ≡ Ok None → EndsAt m s e k c true
   ends_over h = record { is = λ t i. compared_over y i a h }
 
-  pub ends_fault : {x : Malformed} → r ≡ Err x → EndsAt m s e k c true
+  pub ends_fault : {x : Malformed ParameterCursors} → r ≡ Err x → EndsAt m s e k c true
   ends_fault h = record { is = λ t i. compared_fault y i a h }
 
   pub ends_again : {b : Bool} {pc : ParameterCursors} → r ≡ Ok (Some pc) → b ≡ is_one_of (name_cut m s pc.name pc.end) (take k (names_of (params_at m s e))) → EndsAt m s e k c b

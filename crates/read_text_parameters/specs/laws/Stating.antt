@@ -61,7 +61,7 @@ module _ (w : List ℕ) {t : ℕ} (e : t ≡ place_of w type_names) where
 
 -- ---- VALUE's one value, in the encoding u of a value
 
-module _ (ed : Edition) {m : ℕ} {s : List ℕ} {c : ℕ} {r : Result (Option ValueCursors) Malformed} (y : cuts m ≡ true) (v : ValueAt param_value m s c r) where
+module _ (ed : Edition) {m : ℕ} {s : List ℕ} {c : ℕ} {r : Result (Option ValueCursors) (Malformed ValueCursors)} (y : cuts m ≡ true) (v : ValueAt param_value m s c r) where
   module _ {b : Bool} {vc : ValueCursors} (h : r ≡ Ok (Some vc)) (e : b ≡ is_empty (items next_value (rest m s vc.next))) where
     several : is_empty (map (decoded_value ed) (items next_value (rest m s vc.next))) ≡ b
     several = map_empty (decoded_value ed) (items next_value (rest m s vc.next)) ∙ sym e
@@ -74,7 +74,7 @@ module _ (ed : Edition) {m : ℕ} {s : List ℕ} {c : ℕ} {r : Result (Option V
     unfolding pick
     value_several k = record { is = rw (values_first y v h, several, k) }
 
-  pub value_none : {x : Malformed} → r ≡ Err x → TypeOf (type_in (values_in ed m s c)) None
+  pub value_none : {x : Malformed ValueCursors} → r ≡ Err x → TypeOf (type_in (values_in ed m s c)) None
   value_none h = record { is = rw (values_none y v h) }
 
 -- ---- the parameters of a line
@@ -112,7 +112,7 @@ pub record Stating (ed : Edition) (d m : ℕ) (s : List ℕ) (e c : ℕ) : Type 
 pub stated_start : (ed : Edition) (d m : ℕ) (s : List ℕ) (e : ℕ) → Stating ed d m s e e
 stated_start ed d m s e = record { is = refl }
 
-module _ {ed : Edition} {d m : ℕ} {s : List ℕ} {e c : ℕ} {r : Result (Option ParameterCursors) Malformed} (y : cuts m ≡ true) (i : Stating ed d m s e c) (a : ParamOf next_param m s c r) where
+module _ {ed : Edition} {d m : ℕ} {s : List ℕ} {e c : ℕ} {r : Result (Option ParameterCursors) (Malformed ParameterCursors)} (y : cuts m ≡ true) (i : Stating ed d m s e c) (a : ParamOf next_param m s c r) where
   module _ {b : Bool} {pc : ParameterCursors} (h : r ≡ Ok (Some pc)) (q : b ≡ same (upper (rest m (take pc.end s) pc.name)) (ascii "VALUE")) where
     pub stated_more : b ≡ false → Stating ed d m s e pc.next
     unfolding stated_at pick
@@ -129,5 +129,5 @@ module _ {ed : Edition} {d m : ℕ} {s : List ℕ} {e c : ℕ} {r : Result (Opti
   pub stated_over : r ≡ Ok None → StatedAt ed d m s e (Some d)
   stated_over h = ended (read_over ed y (stated_at d) i.is a h)
 
-  pub stated_fault : {x : Malformed} → r ≡ Err x → StatedAt ed d m s e (Some d)
+  pub stated_fault : {x : Malformed ParameterCursors} → r ≡ Err x → StatedAt ed d m s e (Some d)
   stated_fault h = ended (read_fault ed y (stated_at d) i.is a h)

@@ -366,14 +366,14 @@ pub record Stepping (ed : Edition) (row : Row) (m : ℕ) (s : List ℕ) (e c : �
 pub step_start : (ed : Edition) (row : Row) (m : ℕ) (s : List ℕ) (e : ℕ) → Stepping ed row m s e e (record { count = 0; seen = 0; again = 0; value_type = row.default })
 step_start ed row m s e = record { walked = walked_start row (params_in ed m s e); past = omega arith }
 
-module _ {ed : Edition} {row : Row} {m : ℕ} {s : List ℕ} {e c : ℕ} {n : Noted} {r : Result (Option ParameterCursors) Malformed} (y : cuts m ≡ true) (i : Stepping ed row m s e c n) (a : ParamOf next_param m s c r) where
+module _ {ed : Edition} {row : Row} {m : ℕ} {s : List ℕ} {e c : ℕ} {n : Noted} {r : Result (Option ParameterCursors) (Malformed ParameterCursors)} (y : cuts m ≡ true) (i : Stepping ed row m s e c n) (a : ParamOf next_param m s c r) where
   step_none : params_in ed m s c ≡ [] → Walked row (params_in ed m s e) [] n
   step_none h = subst (λ (l : List RawParameter). Walked row (params_in ed m s e) l n) h i.walked
 
   pub step_over : {p : Result ℕ ParameterFault} → r ≡ Ok None → p ≡ ended_by n → ParametersAt row (params_in ed m s e) p
   step_over h = walked_end (step_none (read_over ed y (λ (rs : List RawParameter). rs) refl a h))
 
-  pub step_fault : {p : Result ℕ ParameterFault} → {x : Malformed} → r ≡ Err x → p ≡ ended_by n → ParametersAt row (params_in ed m s e) p
+  pub step_fault : {p : Result ℕ ParameterFault} → {x : Malformed ParameterCursors} → r ≡ Err x → p ≡ ended_by n → ParametersAt row (params_in ed m s e) p
   step_fault h = walked_end (step_none (read_fault ed y (λ (rs : List RawParameter). rs) refl a h))
 
   module _ {q : ℕ} {v : Noted} {b : Bool} {pc : ParameterCursors} (h : r ≡ Ok (Some pc)) (f : q ≡ number_of (name_cut m s pc.name pc.end)) (g₀ : v ≡ sought_by n (names_of (params_at m s e)))

@@ -131,10 +131,12 @@ module _ (x : Bool) {m : ℕ} {s : List ℕ} {c : ℕ} {w : Option Walk} (p : Wa
   unfolding moment
   date_time_ended {v} h e = followed ∙ rw (h, e) (moment_zone v.number _)
 
-pub moment_day : (n : ℕ) (z : Zone) {d : List ℕ} {t : Option (List ℕ)} → day_from (n / 1000000) ≡ Some d → clock_by (n % 1000000) z ≡ t → moment_by n z ≡ join_time d t
-unfolding moment_by and_then
-moment_day n z e h = rw (e, h)
+pub moment_day : (n : ℕ) (o : Option Zone) {d : List ℕ} {t : Option (List ℕ)} → day_from (n / 1000000) ≡ Some d → and_then o (clock_by (n % 1000000)) ≡ t → and_then o (moment_by n) ≡ join_time d t
+unfolding moment_by and_then join_time
+moment_day n None e h = rw (sym h)
+moment_day n (Some z) e h = rw (e, h)
 
-pub moment_none : (n : ℕ) (z : Zone) → day_from (n / 1000000) ≡ None → moment_by n z ≡ None
+pub moment_none : (n : ℕ) (o : Option Zone) → day_from (n / 1000000) ≡ None → and_then o (moment_by n) ≡ None
 unfolding moment_by and_then
-moment_none n z e = rw e
+moment_none n None e = refl
+moment_none n (Some z) e = rw e

@@ -202,6 +202,11 @@ pub clock_found : (n : ℕ) (z : Zone) {utc : Bool} → utc ≡ is_utc z → is_
 unfolding clock_by pick
 clock_found n z u e = rw (e, u)
 
+-- what stands after the digits is no zone
+pub clock_longer : (n : ℕ) (o : Option Zone) → o ≡ None → and_then o (clock_by n) ≡ None
+unfolding and_then
+clock_longer n o e = rw e
+
 pub clock_missing : (n : ℕ) (z : Zone) → is_hms (n / 10000 % 100) (n / 100 % 100) (n % 100) ≡ false → clock_by n z ≡ None
 unfolding clock_by pick
 clock_missing n z e = rw e

@@ -166,7 +166,7 @@ array_of x y l = ap (λ (m : List ℕ). ascii "[" ⊕ m) (sym (append_regroup x 
 abbrev found : ℕ → List ℕ → ValueCursors → ParamValue
 found m s r = value_in m s r.quoted r.from
 
-module _ (ed : Edition) (p : ParameterRow) {m : ℕ} {s : List ℕ} {c : ℕ} {b : Result ValueCursors Malformed} (y : cuts m ≡ true) (v : ValueAt param_value m s c (there b)) {d e : List ℕ} {o n : ℕ} where
+module _ (ed : Edition) (p : ParameterRow) {m : ℕ} {s : List ℕ} {c : ℕ} {b : Result ValueCursors (Malformed ValueCursors)} (y : cuts m ≡ true) (v : ValueAt param_value m s c (there b)) {d e : List ℕ} {o n : ℕ} where
   module _ {t : Bool} {r : ValueCursors} (h : b ≡ Ok r) (q : t ≡ not (is_empty (items next_value (rest m s r.next)))) where
     pub put_several : t ≡ true →
         Put d e o n (ascii "[" ⊕ value_shown p (decode ed (rest m (take r.to s) r.from)) ⊕ each_after value_separator (map (chars_in ed p) (items next_value (rest m s r.next))) ⊕ ascii "]") →
@@ -188,7 +188,7 @@ module _ (ed : Edition) (p : ParameterRow) {m : ℕ} {s : List ℕ} {c : ℕ} {b
         go [] k w = w
         go (a ∷ l) k w = absurd (false≢true (sym k))
 
-  pub put_no_first : {x : Malformed} → b ≡ Err x → Put d e o n (ascii "[]") → Put d e o n (one_or_array (map (chars_in ed p) (values_at m s c)))
+  pub put_no_first : {x : Malformed ValueCursors} → b ≡ Err x → Put d e o n (ascii "[]") → Put d e o n (one_or_array (map (chars_in ed p) (values_at m s c)))
   unfolding values_of joined_by ◌⊕◌
   put_no_first h w = rw (item_bad v.item (ap there h)) w
 

@@ -71,13 +71,13 @@ module _ {d e : List ℕ} {o r : ℕ} (q : ℕ) (l : List ℕ) {t : Bool} (h : t
 
 -- ---- the values of a parameter
 
-module _ (ed : Edition) (p : ParameterRow) {m : ℕ} {s : List ℕ} {c : ℕ} {r : Result ValueCursors Malformed} (y : cuts m ≡ true) (v : ValueAt param_value m s c (there r)) {d : List ℕ} {o : ℕ} where
+module _ (ed : Edition) (p : ParameterRow) {m : ℕ} {s : List ℕ} {c : ℕ} {r : Result ValueCursors (Malformed ValueCursors)} (y : cuts m ≡ true) (v : ValueAt param_value m s c (there r)) {d : List ℕ} {o : ℕ} where
   pub put_first : {u : ValueCursors} {e f : List ℕ} {a n : ℕ} → r ≡ Ok u → Put d e o a (value_shown p (decode ed (rest m (take u.to s) u.from))) →
       Put e f a n (joined (map (chars_in ed p) (items next_value (rest m s u.next)))) → Put d f o n (joined (map (chars_in ed p) (values_at m s c)))
   unfolding joined
   put_first {u} {e} {f} {a} {n} h x w = rw (value_first v (ap there h)) (subst (λ (l : List ℕ). Put d e o a (value_shown p (decode ed l))) (value_chars y v (ap there h)) x ▷ w)
 
-  pub put_no_first : {x : Malformed} → r ≡ Err x → length d * 1 < 2 ^ 63 → Put d d o o (joined (map (chars_in ed p) (values_at m s c)))
+  pub put_no_first : {x : Malformed ValueCursors} → r ≡ Err x → length d * 1 < 2 ^ 63 → Put d d o o (joined (map (chars_in ed p) (values_at m s c)))
   unfolding joined values_of
   put_no_first h z = rw (item_bad v.item (ap there h)) (put_none d o z)
 

@@ -25,7 +25,7 @@ use Rattle.read_text_line.specs.Cursor.{params_at}
 use Rattle.read_text_line.specs.Values.{ValueAt}
 use Rattle.read_text_line.specs.laws.Values.{value_chars, value_more, value_over, value_fault}
 use Rattle.read_text_line.specs.Params.{ParamOf}
-use Rattle.read_text_line.specs.laws.Params.{name_chars, param_more, param_parts, param_over, param_fault}
+use Rattle.read_text_line.specs.laws.Params.{name_chars, param_more, param_name, param_over, param_fault}
 use Rattle.read_text_line.specs.declared.Malformed.{Malformed}
 use Rattle.read_text_line.specs.declared.ValueCursors.{ValueCursors}
 use Rattle.read_text_line.specs.declared.ParameterCursors.{ParameterCursors}
@@ -51,7 +51,7 @@ module _ {A : Type 0} {f : A → List ℕ} {d₀ : List ℕ} {at₀ : ℕ} {all 
 
 -- ---- the values that follow the first
 
-module _ (ed : Edition) (p : ParameterRow) {d₀ : List ℕ} {at₀ : ℕ} {all : List ParamValue} {d : List ℕ} {at n : ℕ} {s : List ℕ} {c : ℕ} {r : Result (Option ValueCursors) Malformed}
+module _ (ed : Edition) (p : ParameterRow) {d₀ : List ℕ} {at₀ : ℕ} {all : List ParamValue} {d : List ℕ} {at n : ℕ} {s : List ℕ} {c : ℕ} {r : Result (Option ValueCursors) (Malformed ValueCursors)}
     (y : cuts n ≡ true) (t : Writing (chars_in ed p) d₀ at₀ all d at (items next_value (rest n s c))) (v : ValueAt next_value n s c r) where
   pub value_written : {a : ValueCursors} {e : List ℕ} {m : ℕ} → r ≡ Ok (Some a) → Put d e at m (value_shown p (decode ed (rest n (take a.to s) a.from))) →
       Writing (chars_in ed p) d₀ at₀ all e m (items next_value (rest n s a.next))
@@ -60,16 +60,16 @@ module _ (ed : Edition) (p : ParameterRow) {d₀ : List ℕ} {at₀ : ℕ} {all 
   pub values_over : r ≡ Ok None → Put d₀ d at₀ at (joined (map (chars_in ed p) all))
   values_over h = writing_end t (value_over v h)
 
-  pub values_fault : {x : Malformed} → r ≡ Err x → Put d₀ d at₀ at (joined (map (chars_in ed p) all))
+  pub values_fault : {x : Malformed ValueCursors} → r ≡ Err x → Put d₀ d at₀ at (joined (map (chars_in ed p) all))
   values_fault h = writing_end t (value_fault v h)
 
 -- ---- the parameters of a line
 
-module _ {n : ℕ} {s : List ℕ} {c : ℕ} {r : Result (Option ParameterCursors) Malformed} (y : cuts n ≡ true) (a : ParamOf next_param n s c r) {p : ParameterCursors} (h : r ≡ Ok (Some p)) where
+module _ {n : ℕ} {s : List ℕ} {c : ℕ} {r : Result (Option ParameterCursors) (Malformed ParameterCursors)} (y : cuts n ≡ true) (a : ParamOf next_param n s c r) {p : ParameterCursors} (h : r ≡ Ok (Some p)) where
   pub cut_more : params_at n s c ≡ param_cut n s p.name p.end p.first ∷ params_at n s p.next
-  cut_more = param_more a h ∙ rw (name_chars y (param_parts a h).named)
+  cut_more = param_more a h ∙ rw (name_chars y (param_name a h))
 
-module _ (ed : Edition) {d₀ : List ℕ} {at₀ : ℕ} {all : List RawParameter} {d : List ℕ} {at n : ℕ} {s : List ℕ} {c : ℕ} {r : Result (Option ParameterCursors) Malformed}
+module _ (ed : Edition) {d₀ : List ℕ} {at₀ : ℕ} {all : List RawParameter} {d : List ℕ} {at n : ℕ} {s : List ℕ} {c : ℕ} {r : Result (Option ParameterCursors) (Malformed ParameterCursors)}
     (y : cuts n ≡ true) (t : Writing own_shown d₀ at₀ all d at (params_in ed n s c)) (a : ParamOf next_param n s c r) where
   pub param_written : {p : ParameterCursors} {e : List ℕ} {m : ℕ} → r ≡ Ok (Some p) → Put d e at m (own_shown (param_read ed n s p.name p.end p.first)) →
       Writing own_shown d₀ at₀ all e m (params_in ed n s p.next)
@@ -78,7 +78,7 @@ module _ (ed : Edition) {d₀ : List ℕ} {at₀ : ℕ} {all : List RawParameter
   pub params_over : r ≡ Ok None → Put d₀ d at₀ at (joined (map own_shown all))
   params_over h = writing_end t (ap (map (decoded_parameter ed)) (param_over a h))
 
-  pub params_fault : {x : Malformed} → r ≡ Err x → Put d₀ d at₀ at (joined (map own_shown all))
+  pub params_fault : {x : Malformed ParameterCursors} → r ≡ Err x → Put d₀ d at₀ at (joined (map own_shown all))
   params_fault h = writing_end t (ap (map (decoded_parameter ed)) (param_fault a h))
 
 -- ---- whether there is one besides VALUE, which is the same in every edition
@@ -93,7 +93,7 @@ own_none ed (r ∷ rs) = go (same (upper r.name) (ascii "VALUE")) (own_none ed r
     go true h = h
     go false h = refl
 
-module _ {n : ℕ} {s : List ℕ} {c : ℕ} {v : Bool} {r : Result (Option ParameterCursors) Malformed} (y : cuts n ≡ true) (e : v ≡ is_empty (own_parameters (params_at n s c))) (a : ParamOf next_param n s c r) where
+module _ {n : ℕ} {s : List ℕ} {c : ℕ} {v : Bool} {r : Result (Option ParameterCursors) (Malformed ParameterCursors)} (y : cuts n ≡ true) (e : v ≡ is_empty (own_parameters (params_at n s c))) (a : ParamOf next_param n s c r) where
   module _ {t : Bool} {p : ParameterCursors} (h : r ≡ Ok (Some p)) (q : t ≡ same (upper (rest n (take p.end s) p.name)) (ascii "VALUE")) where
     pub only_more : t ≡ true → v ≡ is_empty (own_parameters (params_at n s p.next))
     unfolding own_parameters pick
@@ -107,6 +107,6 @@ module _ {n : ℕ} {s : List ℕ} {c : ℕ} {v : Bool} {r : Result (Option Param
   unfolding own_parameters
   only_over h = sym (e ∙ rw (param_over a h))
 
-  pub only_fault : {x : Malformed} → r ≡ Err x → true ≡ v
+  pub only_fault : {x : Malformed ParameterCursors} → r ≡ Err x → true ≡ v
   unfolding own_parameters
   only_fault h = sym (e ∙ rw (param_fault a h))

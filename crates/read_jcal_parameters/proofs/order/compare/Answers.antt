@@ -7,16 +7,16 @@ pub loop-x-init : goal.loop-x-init
 loop-x-init c = refl
 
 pub returns-then-x-y : goal.returns-then-x-y
-returns-then-x-y c = order_less c.unit-x.ensures c.unit-y.ensures c.if-x-y.true ∙ sym c.loop-x.invariant
+returns-then-x-y c = order_less c.name_unit-x.ensures c.name_unit-y.ensures c.if-x-y.true ∙ sym c.loop-x.invariant
 
 pub returns-then-y-x : goal.returns-then-y-x
-returns-then-y-x c = order_more c.unit-x.ensures c.unit-y.ensures c.if-x-y.false c.if-y-x.true ∙ sym c.loop-x.invariant
+returns-then-y-x c = order_more c.name_unit-x.ensures c.name_unit-y.ensures c.if-x-y.false c.if-y-x.true ∙ sym c.loop-x.invariant
 
 pub returns-then-x-eq-END : goal.returns-then-x-eq-END
-returns-then-x-eq-END c = order_end c.unit-x.ensures c.unit-y.ensures c.if-x-y.false c.if-y-x.false c.if-x-eq-END.true ∙ sym c.loop-x.invariant
+returns-then-x-eq-END c = order_end c.name_unit-x.ensures c.name_unit-y.ensures c.if-x-y.false c.if-y-x.false c.if-x-eq-END.true ∙ sym c.loop-x.invariant
 
 pub loop-x-smaller : goal.loop-x-smaller
-loop-x-smaller c = order_nearer c.unit-x.ensures c.if-x-eq-END.false
+loop-x-smaller c = order_nearer c.name_unit-x.ensures c.if-x-eq-END.false
 
 pub loop-x-preserved : goal.loop-x-preserved
-loop-x-preserved c = c.loop-x.invariant ∙ order_on c.unit-x.ensures c.unit-y.ensures c.if-x-y.false c.if-y-x.false c.if-x-eq-END.false
+loop-x-preserved c = c.loop-x.invariant ∙ order_on c.name_unit-x.ensures c.name_unit-y.ensures c.if-x-y.false c.if-y-x.false c.if-x-eq-END.false

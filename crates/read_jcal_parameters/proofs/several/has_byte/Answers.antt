@@ -5,8 +5,8 @@ use Rattle.read_jcal_parameters.proofs.several.has_byte.Goals as goal
 pub loop-n-init : goal.loop-n-init
 loop-n-init c = search holding
 
-pub unit-n-requires : goal.unit-n-requires
-unit-n-requires c = search holding
+pub quoted_unit-n-requires : goal.quoted_unit-n-requires
+quoted_unit-n-requires c = search holding
 
 pub returns-then-u-eq-END : goal.returns-then-u-eq-END
 returns-then-u-eq-END c = search holding

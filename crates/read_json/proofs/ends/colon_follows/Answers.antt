@@ -2,11 +2,11 @@
 use Rattle.read_json.specs.laws.Ends.{spacing}
 use Rattle.read_json.proofs.ends.colon_follows.Goals as goal
 
-pub returns-then-not-is_space : goal.returns-then-not-is_space
-returns-then-not-is_space c = search spacing
-
 pub loop-i-preserved : goal.loop-i-preserved
 loop-i-preserved c = search spacing
+
+pub returns-else-white : goal.returns-else-white
+returns-else-white c = search spacing
 
 pub returns : goal.returns
 returns c = search spacing

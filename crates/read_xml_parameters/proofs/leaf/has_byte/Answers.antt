@@ -7,8 +7,8 @@ use Rattle.read_xml_parameters.proofs.leaf.has_byte.Goals as goal
 pub loop-n-init : goal.loop-n-init
 loop-n-init c = search holding
 
-pub unit-n-requires : goal.unit-n-requires
-unit-n-requires c = search holding
+pub xml_unit-n-requires : goal.xml_unit-n-requires
+xml_unit-n-requires c = search holding
 
 pub returns-then-u-eq-END : goal.returns-then-u-eq-END
 returns-then-u-eq-END c = search holding
