@@ -1,5 +1,6 @@
 -- Parameters of a content line read through a cursor.
---     ParamOf p m s c r     what p, which reads a parameter, reads from the cursor c on;   ParamParts: where its parts stand;   NameIn: where its name ends
+--     ParamOf p m s c r     what p, which reads a parameter, reads from the cursor c on
+--     ParamParts, ReadParts  where its parts stand;   where what was read of it stands;   NameIn: where its name ends
 use Rattle.std.specs.Prelude.{List, ℕ, Option, Result}
 use Rattle.octets.specs.Class.{is_name_char}
 use Rattle.octets.specs.Runs.{after_byte, after_run, run_of}
@@ -32,8 +33,16 @@ behind_param a = a.next
 abbrev pub NameIn : ℕ → List ℕ → ParameterCursors → Type 0
 NameIn m s a = NameEnds m s a.name a.end
 
--- where the parameter at c stands, or what was read of it
+-- where the parameter at c stands
 pub record ParamParts (m : ℕ) (s : List ℕ) (c : ℕ) (a : ParameterCursors) : Type 0 where
+  pub start : Onward m s c a.name
+  pub named : NameEnds m s a.name a.end
+  pub ends : Onward m s a.name a.end
+  pub equals : Onward m s a.end a.first
+  pub behind : Onward m s a.first a.next
+
+-- where what was read of it stands, whether it is a parameter or a fault
+pub record ReadParts (m : ℕ) (s : List ℕ) (c : ℕ) (a : ParameterCursors) : Type 0 where
   pub start : Onward m s c a.name
   pub ends : Onward m s a.name a.end
   pub equals : Onward m s a.end a.first
@@ -41,8 +50,8 @@ pub record ParamParts (m : ℕ) (s : List ℕ) (c : ℕ) (a : ParameterCursors) 
 
 pub record ParamOf (p : List ℕ → One RawParameter) (m : ℕ) (s : List ℕ) (c : ℕ) (r : Result (Option ParameterCursors) (Malformed ParameterCursors)) : Type 0 where
   pub item : ItemAt p m s c (param_of m s) behind_param r
-  pub named : OnItem r (NameIn m s)
-  pub parts : OnRead r (ParamParts m s c)
+  pub parts : OnItem r (ParamParts m s c)
+  pub read : OnRead r (ReadParts m s c)
 
 -- of one without a name, or without an equals sign
 abbrev pub bad_param : ℕ → ParameterCursors

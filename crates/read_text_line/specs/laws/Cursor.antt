@@ -17,7 +17,7 @@ use Rattle.octets.specs.Many.{One}
 use Rattle.source.specs.Source.{rest, spell, cuts, Reads}
 use Rattle.source.specs.laws.Facts.{rest_byte, cut_is, reach_here, reach_on}
 use Rattle.source.specs.declared.points.Unit.{Unit}
-use Rattle.read_text_line.specs.Cursor.{Onward, OnwardTo, in_line, RunEnds, OnRead, ItemAt}
+use Rattle.read_text_line.specs.Cursor.{Onward, OnwardTo, in_line, RunEnds, OnItem, OnRead, ItemAt}
 use Rattle.read_text_line.specs.declared.Malformed.{Malformed}
 
 -- ---- cursors
@@ -105,6 +105,11 @@ pub passed_on : {A C : Type 0} (r : Result A (Malformed C)) (x : Malformed C) �
 passed_on r x h = let p = err_from_is_err_and r h in p.1 ∙ ap Err p.2
 
 -- ---- an item at a cursor
+
+pub on_item : {C : Type 0} (P Q : C → Type 0) (r : Result (Option C) (Malformed C)) → ((v : C) → P v → Q v) → OnItem r P → OnItem r Q
+on_item P Q (Ok (Some v)) f h = f v h
+on_item P Q (Ok None) f h = tt
+on_item P Q (Err e) f h = tt
 
 pub on_read : {C : Type 0} (P Q : C → Type 0) (r : Result (Option C) (Malformed C)) → ((v : C) → P v → Q v) → OnRead r P → OnRead r Q
 on_read P Q (Ok (Some v)) f h = f v h

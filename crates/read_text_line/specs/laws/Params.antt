@@ -19,10 +19,10 @@ use Rattle.source.specs.declared.points.Unit.{Unit}
 use Rattle.names.specs.laws.Runs.{run_cut as name_cut}
 use Rattle.read_text_line.specs.ContentLine.{RawParameter, param, next_param}
 use Rattle.read_text_line.specs.Cursor.{Onward, RunEnds, one_to, params_at}
-use Rattle.read_text_line.specs.laws.Cursor.{onward_here, onward_both, onward_byte, byte_at, byte_not, on_read, item_behind, item_not}
+use Rattle.read_text_line.specs.laws.Cursor.{onward_here, onward_both, onward_byte, byte_at, byte_not, on_item, on_read, item_behind, item_not}
 use Rattle.read_text_line.specs.laws.Repeating.{items_more, items_none_here, items_bad_here, walk_less, param_takes}
 use Rattle.read_text_line.specs.Values.{ValuesAt}
-use Rattle.read_text_line.specs.Params.{NameEnds, param_in, param_of, ParamParts, ParamOf, bad_param, named_param}
+use Rattle.read_text_line.specs.Params.{NameEnds, NameIn, param_in, param_of, ParamParts, ReadParts, ParamOf, bad_param, named_param}
 use Rattle.read_text_line.specs.declared.Malformed.{Malformed}
 use Rattle.read_text_line.specs.declared.ParameterCursors.{ParameterCursors}
 
@@ -72,8 +72,8 @@ module _ {m : ℕ} {s : List ℕ} {c : ℕ} where
   faulty : {p : List ℕ → One RawParameter} {x : Malformed ParameterCursors} → x.read ≡ bad_param c → p (rest m s c) ≡ bad (rest m s c) → ParamOf p m s c (Err x)
   faulty z e = record {
     item = record { fault = rest m s c; is = e; to = rw z (onward_here c) };
-    named = tt;
-    parts = rw z (record { start = onward_here c; ends = onward_here c; equals = onward_here c; behind = onward_here c });
+    parts = tt;
+    read = rw z (record { start = onward_here c; ends = onward_here c; equals = onward_here c; behind = onward_here c });
   }
 
   module _ {e : ℕ} {n : Unit} (h : NameEnds m s c e) (p : Reads m s e n) where
@@ -85,16 +85,16 @@ module _ {m : ℕ} {s : List ℕ} {c : ℕ} where
     named_values {v} k a =
         let b = onward_byte p (λ z. omega arith) in record {
           item = record { fault = a.fault; is = valued (Ok v) k a; to = onward_both (name_onward h) (onward_both b a.to) };
-          named = h;
-          parts = record { start = onward_here c; ends = name_onward h; equals = b; behind = a.to };
+          parts = record { start = onward_here c; named = h; ends = name_onward h; equals = b; behind = a.to };
+          read = record { start = onward_here c; ends = name_onward h; equals = b; behind = a.to };
         }
 
     pub named_faulty : {x : Malformed ℕ} → n.u ≡ 61 → ValuesAt m s n.next (Err x) → ParamOf named_param m s c (Err (record { read = record { name = c; end = e; first = n.next; next = x.read } }))
     named_faulty {x} k a =
         let b = onward_byte p (λ z. omega arith) in record {
           item = record { fault = a.fault; is = valued (Err x) k a; to = onward_both (name_onward h) (onward_both b a.to) };
-          named = tt;
-          parts = record { start = onward_here c; ends = name_onward h; equals = b; behind = a.to };
+          parts = tt;
+          read = record { start = onward_here c; ends = name_onward h; equals = b; behind = a.to };
         }
 
     pub named_not : {x : Malformed ParameterCursors} → (n.u ≡ 61 → ⊥) → x.read ≡ bad_param c → ParamOf named_param m s c (Err x)
@@ -106,20 +106,20 @@ module _ {m : ℕ} {s : List ℕ} {c : ℕ} where
 
   pub param_named : {t : Bool} {r : Result (Option ParameterCursors) (Malformed ParameterCursors)} → t ≡ is_empty (run_of is_name_char (rest m s c)) → t ≡ false → ParamOf named_param m s c r → ParamOf param m s c r
   unfolding param
-  param_named e h a = record { item = record { fault = a.item.fault; is = pick_no _ _ _ (sym e ∙ h) ∙ a.item.is; to = a.item.to }; named = a.named; parts = a.parts }
+  param_named e h a = record { item = record { fault = a.item.fault; is = pick_no _ _ _ (sym e ∙ h) ∙ a.item.is; to = a.item.to }; parts = a.parts; read = a.read }
 
   module _ {n : Unit} (p : Reads m s c n) where
     pub param_there : {r : Result (Option ParameterCursors) (Malformed ParameterCursors)} → n.u ≡ 59 → ParamOf param m s n.next r → ParamOf next_param m s c r
     unfolding next_param
     param_there {r} k a = record {
       item = item_behind 59 param One.none (λ xs. refl) p (λ z. omega arith) k a.item;
-      named = a.named;
-      parts = on_read (ParamParts m s n.next) (ParamParts m s c) r (λ v o. record { start = onward_both (onward_byte p (λ z. omega arith)) o.start; ends = o.ends; equals = o.equals; behind = o.behind }) a.parts;
+      parts = on_item (ParamParts m s n.next) (ParamParts m s c) r (λ v o. record { start = onward_both (onward_byte p (λ z. omega arith)) o.start; named = o.named; ends = o.ends; equals = o.equals; behind = o.behind }) a.parts;
+      read = on_read (ReadParts m s n.next) (ReadParts m s c) r (λ v o. record { start = onward_both (onward_byte p (λ z. omega arith)) o.start; ends = o.ends; equals = o.equals; behind = o.behind }) a.read;
     }
 
     pub param_missing : (n.u ≡ 59 → ⊥) → ParamOf next_param m s c (Ok None)
     unfolding next_param
-    param_missing k = record { item = item_not 59 param One.none (λ xs. refl) p refl k; named = tt; parts = tt }
+    param_missing k = record { item = item_not 59 param One.none (λ xs. refl) p refl k; parts = tt; read = tt }
 
   -- ---- a walk over parameters
 
@@ -133,8 +133,8 @@ module _ {m : ℕ} {s : List ℕ} {c : ℕ} where
     pub param_parts : {v : ParameterCursors} → r ≡ Ok (Some v) → ParamParts m s c v
     param_parts e = rw e at a.parts
 
-    pub param_name : {v : ParameterCursors} → r ≡ Ok (Some v) → NameEnds m s v.name v.end
-    param_name e = rw e at a.named
+    pub param_name : {v : ParameterCursors} → r ≡ Ok (Some v) → NameIn m s v
+    param_name e = (param_parts e).named
 
     pub param_over : r ≡ Ok None → params_at m s c ≡ []
     param_over = items_none_here a.item
